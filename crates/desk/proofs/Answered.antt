@@ -1,38 +1,43 @@
 -- Stamps that are answered together are a run of the machine, and what a stop after them may leave.
-use Rattle.std.proofs.Common.{◌≡◌, ◌⊎◌, ℕ, List, [], ◌∷◌, map, length, Option, Some, None, Result, refl, sym, ap, ◌∙◌}
-use Rattle.std.proofs.Common.{subst, inl, inr}
+use Rattle.std.proofs.Common.{◌≡◌, ◌⊎◌, ℕ, List, [], ◌∷◌, ◌++◌, map, Option, Some, None, Result, refl, sym, ap}
+use Rattle.std.proofs.Common.{◌∙◌, subst, inl, inr, append_assoc}
+use Rattle.std.specs.List.{AllByRecursion}
 use Rattle.policy.specs.Record.{PolicyValue}
+use Rattle.tsp.specs.Rules.{IsFirstFailing}
 use Rattle.tsp.specs.declared.rule.Rule.{Rule}
+use Rattle.cms.specs.Signer.{count_after_each, SignsEach}
 use Rattle.cms.specs.declared.signer.SignerFault.{SignerFault}
 use Rattle.book.specs.declared.standing.Standing.{Ghosts}
-use Rattle.book.specs.History.{History}
+use Rattle.book.specs.Entries.{with_all, FitInTurn}
+use Rattle.book.specs.History.{Entry, Reserved, History}
 use Rattle.book.specs.Shows.{ShowsSame}
 use Rattle.book.specs.Sound.{IsSound}
-use Rattle.book.specs.Stands.{Stands, LeavesAsBefore}
-use Rattle.desk.specs.Batches.{Question, stamp_for, stamps_for, with_reserved, with_sealed, all_reserved, batch_of}
-use Rattle.desk.specs.Batches.{after_batch, faults_along}
-use Rattle.desk.specs.Calls.{refused}
+use Rattle.book.specs.Stands.{Stands}
+use Rattle.desk.specs.Batches.{Question, SealValue, stamp_for, stamps_for, seal_entry, with_reserved, with_sealed}
+use Rattle.desk.specs.Batches.{all_reserved, batch_of, after_batch, faults_along}
 use Rattle.desk.specs.Command.{Setting, Answer}
-use Rattle.desk.specs.Completions.{completed, seals_of, AreAllSealed, IsSealedInDoubt, MayBeLeftSealed, CompletesEach}
-use Rattle.desk.specs.Laws.{AreMet}
-use Rattle.desk.specs.MachineRuns.{IsProper, Runs, after}
+use Rattle.desk.specs.Commits.{IsCommitted, untried, added, refused}
+use Rattle.desk.specs.Completions.{Completion, seals_of, texts_of, AreWaiting, AreWritten}
+use Rattle.desk.specs.Findings.{HoldsUnasked}
+use Rattle.desk.specs.MachineRuns.{Runs, after}
 use Rattle.desk.specs.Outcome.{Call, Fine, OutOfMemory, Failed, Outcome, counted, faults_after}
-use Rattle.desk.specs.RunContract.{AreSteps, ArePromised, MayBeLeftBy}
-use Rattle.desk.specs.Together.{AreJudged, AreJudgedUnasked, AreSplit, AreFit, merged, reply_for, IsReservedInDoubt}
-use Rattle.desk.specs.Together.{MayBeLeftTogether, AreRejectedUnasked, IsAnsweredTogether}
+use Rattle.desk.specs.RunContract.{ArePromised}
+use Rattle.desk.specs.Together.{Verdict, Settled, Waits, JudgedStamp, rule_of, rules_of, all_looks, waits_of}
+use Rattle.desk.specs.Together.{AreJudged, IsJudgedRightly, JudgesEach, merged, reply_for, IsToldBy, AreSignedAlike}
+use Rattle.desk.specs.Together.{IsDoubtedTogether, MayBeLeftTogether, AreRejectedUnasked, IsAnsweredTogether}
 use Rattle.desk.specs.WaitingStamps.{waiting_view, pendings_in, with_waiting}
-use Rattle.desk.specs.declared.refusal.StampRefusal.{StampRefusal}
 use Rattle.desk.specs.declared.waiting_stamp.Waiting.{Waiting}
-use Rattle.desk.proofs.Assembly.{outcomes_of, effects_of, AreAsMany, many_of, have_effects, reserves_all, seals_all}
-use Rattle.desk.proofs.Assembly.{says_all, move_in_turn, faults_counted, signers_counted, are_fit, all_wait}
-use Rattle.desk.proofs.Batches.{ShowLaws, reaches, judges_itself, stamp_shape, sound_adds}
-use Rattle.desk.proofs.CompletionLemmas.{kept_itself}
-use Rattle.desk.proofs.Doubted.{sealed_in_doubt, reserved_doubt}
+use Rattle.desk.proofs.Assembly.{questions_of, signings_of, replies_of, AreOf, outcomes_of, effects_of}
+use Rattle.desk.proofs.Assembly.{Grow, behind, outcome_in, have_effects, reserves_all, seals_all, says_all, says_void}
+use Rattle.desk.proofs.Assembly.{move_in_turn, signers_counted, are_fit, all_wait}
+use Rattle.desk.proofs.BatchJudgement.{judged_sound}
+use Rattle.desk.proofs.Batches.{ShowLaws, shows_itself, shows_over, reaches, judges_itself, stamp_shape}
+use Rattle.desk.proofs.Batches.{sound_adds, unsigned, fit_each, cut_once_reserved, cut_at_whole}
+use Rattle.desk.proofs.Committed.{commit_honest, commit_counted, commit_stands, commit_kept}
+use Rattle.desk.proofs.CompletionLemmas.{seals_fit, void_seals}
+use Rattle.desk.proofs.Fits.{is_refused}
 use Rattle.desk.proofs.Promised.{keeps_promises}
-use Rattle.desk.proofs.RunsOn.{steps_run, honest_before}
 use Rattle.desk.proofs.Sound.{TextLaws}
-use Rattle.desk.proofs.Turns.{refused_call, refused_once, stepped_faults, stepped_signer, stepped_fit}
-use Rattle.desk.proofs.Turns.{swapped_along, swapped_sealing}
 
 -- what is promised of each stamp of a run
 promised_along : {S : Type 0} (signs : S → List ℕ → Result (List ℕ) SignerFault → S → Type 0) → TextLaws
@@ -56,226 +61,448 @@ promised_along signs laws s (a ∷ asked) (o ∷ os) b x (answer ∷ answers) la
     )
 
 -- what is judged by the rules 1 to 9 is answered so
-rejected_unasked : (file : PolicyValue) (asked : List Question) (vs : List (Option Rule)) (completions : List Answer)
-    → AreJudgedUnasked file asked vs → AreRejectedUnasked file asked (merged vs completions)
-rejected_unasked file [] [] completions h = tt
-rejected_unasked file (a ∷ asked) (Some r ∷ vs) completions h =
-    (λ rule first. ap (λ v. reply_for v None) (h.0 rule first), rejected_unasked file asked vs completions h.1)
-rejected_unasked file (a ∷ asked) (None ∷ vs) (answer ∷ completions) h = (
-  λ rule first. absurd (let none : None ≡ Some rule = h.0 rule first in cc),
-  rejected_unasked file asked vs completions h.1,
-)
-rejected_unasked file (a ∷ asked) (None ∷ vs) [] h = (
-  λ rule first. absurd (let none : None ≡ Some rule = h.0 rule first in cc),
-  rejected_unasked file asked vs [] h.1,
-)
-rejected_unasked file [] (v ∷ vs) completions h = absurd h
-rejected_unasked file (a ∷ asked) [] completions h = absurd h
+rejected_step : (file : PolicyValue) (a : Question) (v : Option Rule) (vs : List (Option Rule))
+    (completions : List Answer) (asked : List Question)
+    → ((rule : Rule) → IsFirstFailing (HoldsUnasked file a.account a.octets) rule → v ≡ Some rule)
+    → ((rest : List Answer) → AreRejectedUnasked file asked (merged vs rest))
+    → AreRejectedUnasked file (a ∷ asked) (merged (v ∷ vs) completions)
+rejected_step file a (Some r) vs completions asked h rest =
+    (λ rule first. ap (λ v. reply_for v None) (h rule first), rest completions)
+rejected_step file a None vs (answer ∷ completions) asked h rest =
+    (λ rule first. absurd (let none : None ≡ Some rule = h rule first in cc), rest completions)
+rejected_step file a None vs [] asked h rest =
+    (λ rule first. absurd (let none : None ≡ Some rule = h rule first in cc), rest [])
 
--- no commit of the seals was refused, or one was
+rejected_unasked : (s : Setting) (js : List JudgedStamp) (completions : List Answer)
+    → AllByRecursion (IsJudgedRightly s) js
+    → AreRejectedUnasked s.file (questions_of js) (merged (rules_of js) completions)
+rejected_unasked s [] completions h = tt
+rejected_unasked s (j ∷ js) completions h =
+    rejected_step s.file j.question (rule_of j.verdict) (rules_of js) completions (questions_of js) h.0.unasked
+    (λ rest. rejected_unasked s js rest h.1)
+
+-- entries that are added stand in front of what was there
+record AreInFront (entries : List Entry) (b : History) : Type 0 where
+  adds : List Entry
+  is : with_all entries b ≡ adds ++ b
+
+are_in_front : (entries : List Entry) (b : History) → AreInFront entries b
+are_in_front [] b = record { adds = []; is = refl }
+are_in_front (entry ∷ entries) b =
+    let rest = are_in_front entries (entry ∷ b) in
+    record { adds = rest.adds ++ (entry ∷ []); is = rest.is ∙ sym (append_assoc rest.adds (entry ∷ []) b) }
+
+-- the counts don't depend on the order
+swapped : (c d : Call) (n : ℕ) → counted c (counted d n) ≡ counted d (counted c n)
+swapped Fine d n = refl
+swapped OutOfMemory d n = refl
+swapped Failed Fine n = refl
+swapped Failed OutOfMemory n = refl
+swapped Failed Failed n = refl
+
+swapped_after : (o : Outcome) (c : Call) (n : ℕ) → faults_after o (counted c n) ≡ counted c (faults_after o n)
+swapped_after o c n =
+    let a = λ (m : ℕ). counted o.searching m in
+    let b = λ (m : ℕ). counted o.looking m in
+    let d = λ (m : ℕ). counted o.counting m in
+    let e = λ (m : ℕ). counted o.growing m in
+    let f = λ (m : ℕ). counted o.adding m in
+    let h = λ (m : ℕ). counted o.wrapping m in
+    let k = λ (m : ℕ). counted o.sealing m in
+    ap (λ m. k (h (f (e (d (b m)))))) (swapped o.searching c n)
+    ∙ (ap (λ m. k (h (f (e (d m))))) (swapped o.looking c (a n))
+    ∙ (ap (λ m. k (h (f (e m)))) (swapped o.counting c (b (a n)))
+    ∙ (ap (λ m. k (h (f m))) (swapped o.growing c (d (b (a n))))
+    ∙ (ap (λ m. k (h m)) (swapped o.adding c (e (d (b (a n)))))
+    ∙ (ap k (swapped o.wrapping c (f (e (d (b (a n)))))) ∙ swapped o.sealing c (h (f (e (d (b (a n)))))))))))
+
+pub swapped_along : (os : List Outcome) (c : Call) (n : ℕ)
+    → faults_along os (counted c n) ≡ counted c (faults_along os n)
+swapped_along [] c n = refl
+swapped_along (o ∷ os) c n = ap (faults_along os) (swapped_after o c n) ∙ swapped_along os c (faults_after o n)
+
+along_both : (os us : List Outcome) (n : ℕ) → faults_along (os ++ us) n ≡ faults_along us (faults_along os n)
+along_both [] us n = refl
+along_both (o ∷ os) us n = along_both os us (faults_after o n)
+
+looks_uncommitted : (js : List JudgedStamp)
+    → AllByRecursion (λ o. (o.adding ≡ Fine) × (o.sealing ≡ Fine)) (all_looks js)
+looks_uncommitted [] = tt
+looks_uncommitted (j ∷ js) = ((refl, refl), looks_uncommitted js)
+
+all_both : {X : Type 0} (P : X → Type 0) (xs ys : List X) → AllByRecursion P xs → AllByRecursion P ys
+    → AllByRecursion P (xs ++ ys)
+all_both P [] ys one other = other
+all_both P (x ∷ xs) ys one other = (one.0, all_both P xs ys one.1 other)
+
+-- where nothing is left of a list, there was nothing in it
+map_none : {X Y : Type 0} (f : X → Y) (xs : List X) → map f xs ≡ [] → xs ≡ []
+map_none f [] none = refl
+map_none f (x ∷ xs) none = absurd cc
+
+none_asked : (s : Setting) (js : List JudgedStamp) (zs : List Completion) → AreOf s js zs → questions_of js ≡ []
+    → (waits_of js ≡ []) × (zs ≡ [])
+none_asked s [] [] of none = (refl, refl)
+none_asked s [] (z ∷ zs) of none = absurd cc
+none_asked s (j ∷ js) zs of none = absurd cc
+
+none_waits : (js : List JudgedStamp) → questions_of js ≡ [] → waits_of js ≡ []
+none_waits [] none = refl
+none_waits (j ∷ js) none = absurd cc
+
+-- nothing is signed otherwise
+signed_one : (v : Verdict) (zs : List Completion) (one other : Call)
+    → (outcome_in other v zs).signing ≡ (outcome_in one v zs).signing
+signed_one (Settled rule o) zs one other = refl
+signed_one (Waits w) zs one other = refl
+
+signed_alike : (js : List JudgedStamp) (zs : List Completion) (one other : Call)
+    → AreSignedAlike (outcomes_of one js zs) (outcomes_of other js zs)
+signed_alike [] zs one other = tt
+signed_alike (j ∷ js) zs one other =
+    (inl (signed_one j.verdict zs one other), signed_alike js (behind j.verdict zs) one other)
+
+unsigned_alike : (js ks : List JudgedStamp) (zs ys : List Completion) (one other : Call)
+    → questions_of js ≡ questions_of ks
+    → AreSignedAlike (outcomes_of one js zs) (map unsigned (outcomes_of other ks ys))
+unsigned_alike [] [] zs ys one other same = tt
+unsigned_alike (j ∷ js) (k ∷ ks) zs ys one other same =
+    (inr refl, unsigned_alike js ks (behind j.verdict zs) (behind k.verdict ys) one other cc)
+unsigned_alike [] (k ∷ ks) zs ys one other same = absurd cc
+unsigned_alike (j ∷ js) [] zs ys one other same = absurd cc
+
 fine_or_refused : (c : Call) → (c ≡ Fine) ⊎ (c ≡ Fine → ⊥)
 fine_or_refused Fine = inl refl
 fine_or_refused OutOfMemory = inr (λ fine. cc)
 fine_or_refused Failed = inr (λ fine. cc)
 
-all_or_refused : (os : List Outcome) → AreAllSealed os ⊎ (AreAllSealed os → ⊥)
-all_or_refused [] = inl tt
-all_or_refused (o ∷ os) =
-    elim (fine_or_refused o.sealing) [
-      | inr refusal ↦ inr (λ all. refusal all.0)
-      | inl fine ↦ elim (all_or_refused os) [
-        | inr refusal ↦ inr (λ all. refusal all.1)
-        | inl all ↦ inl (fine, all)
-      ]
-    ]
+says_by : (s : Setting) (sealing : Call) (js : List JudgedStamp) (zs : List Completion) (told completions : List Answer)
+    → AreOf s js zs → told ≡ replies_of zs → IsToldBy sealing told completions
+    → map (λ e. e.says) (effects_of s sealing js zs) ≡ merged (rules_of js) completions
+says_by s Fine js zs told completions of are by =
+    says_all s js zs of ∙ ap (merged (rules_of js)) (sym (by ∙ are))
+says_by s OutOfMemory js zs told completions of are by =
+    says_void s OutOfMemory (λ fine. cc) js zs ∙ ap (merged (rules_of js)) (sym by)
+says_by s Failed js zs told completions of are by =
+    says_void s Failed (λ fine. cc) js zs ∙ ap (merged (rules_of js)) (sym by)
 
-any_refused : (sealing : Call) (os : List Outcome)
-    → ((sealing ≡ Fine) × AreAllSealed os) ⊎ (sealing ≡ Fine → AreAllSealed os → ⊥)
-any_refused sealing os =
-    elim (fine_or_refused sealing) [
-      | inr refusal ↦ inr (λ fine all. refusal fine)
-      | inl fine ↦ elim (all_or_refused os) [
-        | inr refusal ↦ inr (λ fine all. refusal all)
-        | inl all ↦ inl (fine, all)
-      ]
-    ]
+-- the history after both commits
+abbrev ends_in : Call → List JudgedStamp → List Completion → History → History
+ends_in sealing js zs b = with_sealed (seals_of sealing zs) (with_waiting (waits_of js) b)
+
+ends_whole : (s : Setting) (sealing : Call) (js : List JudgedStamp) (zs : List Completion) (b : History) → AreOf s js zs
+    → after_batch (batch_of (effects_of s sealing js zs)) b ≡ ends_in sealing js zs b
+ends_whole s sealing js zs b of =
+    let es = effects_of s sealing js zs in
+    ap (λ v. with_sealed v (with_reserved (all_reserved es) b)) (seals_all s sealing js zs of)
+    ∙ ap (λ rs. with_sealed (seals_of sealing zs) (with_reserved rs b)) (reserves_all s sealing js zs)
 
 module _ {B S : Type 0} (g : Ghosts B) (signs : S → List ℕ → Result (List ℕ) SignerFault → S → Type 0) (count : S → ℕ)
     (shows : ShowLaws) (laws : TextLaws) (s : Setting) where
-  -- what is in doubt after both commits
-  doubtful : (asked : List Question) (vs : List (Option Rule)) (ws : List Waiting)
-      (ss : List (Result (List ℕ) SignerFault)) (os : List Outcome) (sealing : Call) (b last : History) (old : B)
-      (left : g.Left) → IsSound b → AreSplit asked vs ws → AreJudged s asked vs ws b → AreAsMany ws ss os
-      → length os ≡ length (pendings_in s ws)
-      → ((xs : List Outcome) → length xs ≡ length (pendings_in s ws) → AreAsMany ws ss xs)
-      → (sealing ≡ Fine → AreAllSealed os → ⊥) → (ws ≡ [] → last ≡ b)
-      → ShowsSame (seals_of (pendings_in s ws) ss os (with_waiting ws b)) last
-      → IsSealedInDoubt g (pendings_in s ws) ss os (with_waiting ws b) left
-      → MayBeLeftTogether g s asked (outcomes_of vs ss os) Fine sealing b old last left
-  doubtful [] vs [] ss os sealing b last old left sound split judged many met as_many refusal still same doubt =
-      inl (inr (inl (subst (g.holds left) (sym (still refl)) doubt.holds)))
-  doubtful [] [] (w ∷ ws) ss os sealing b last old left sound split judged many met as_many refusal still same doubt =
-      absurd judged
-  doubtful [] (v ∷ vs) (w ∷ ws) ss os sealing b last old left sound split judged many met as_many refusal still same
-      doubt = absurd judged
-  doubtful (a ∷ asked) vs ws ss os sealing b last old left sound split judged many met as_many refusal still same
-      doubt = inr (sealed_in_doubt g shows s (a ∷ asked) vs ws ss os sealing b last left sound (λ none. cc) split judged
-      many met as_many refusal same doubt)
+  fit_in : (js : List JudgedStamp) (zs : List Completion) (vs : List SealValue) (b : History) → AreOf s js zs
+      → vs ≡ seals_of Fine zs → IsSound b → AreJudged s js b
+      → FitInTurn (map seal_entry vs) (with_waiting (waits_of js) b)
+  fit_in js zs vs b of are sound judged =
+      let d = with_waiting (waits_of js) b in
+      subst (λ xs. FitInTurn (map seal_entry xs) d) (sym are)
+      (seals_fit zs d (subst (λ ps. AreWaiting ps d) (sym of) (all_wait s js b sound judged)))
+
+  -- the store stands for it
+  stands_in : (sealing : Call) (js : List JudgedStamp) (zs : List Completion) (vs : List SealValue) (b : History)
+      (held new : B) → AreOf s js zs → vs ≡ seals_of Fine zs → IsSound b → AreJudged s js b
+      → IsCommitted g (map seal_entry vs) held new sealing → Stands g (with_waiting (waits_of js) b) held
+      → Stands g (ends_in sealing js zs b) new
+  stands_in sealing js zs vs b held new of are sound judged commit stands =
+      let d = with_waiting (waits_of js) b in
+      let fit = fit_in js zs vs b of are sound judged in
+      elim (fine_or_refused sealing) [
+        | inl fine ↦ subst (λ c. Stands g (ends_in c js zs b) new) (sym fine)
+            (subst (λ xs. Stands g (with_sealed xs d) new) are
+            (commit_stands g (map seal_entry vs) held new sealing d commit fine stands fit))
+        | inr refusal ↦ subst (λ xs. Stands g (with_sealed xs d) new) (sym (void_seals sealing refusal zs))
+            (commit_kept g (map seal_entry vs) held new sealing d commit refusal stands)
+      ]
+
+  -- The commit of all tokens was refused: what is in doubt is the history with them, or without.
+  doubtful : (sealing tried : Call) (js : List JudgedStamp) (zs : List Completion) (b last : History) (left : g.Left)
+      → IsSound b → AreJudged s js b → AreOf s js zs → (questions_of js ≡ [] → ⊥) → (sealing ≡ Fine → ⊥)
+      → ShowsSame (with_waiting (waits_of js) b) last → g.holds left (ends_in tried js zs b)
+      → IsDoubtedTogether g s (questions_of js) (outcomes_of sealing js zs) Fine sealing b last left
+  doubtful sealing tried js zs b last left sound judged of some refusal same holds =
+      let d = with_waiting (waits_of js) b in
+      let entries = map seal_entry (seals_of tried zs) in
+      let front = are_in_front entries last in
+      let es = effects_of s tried js zs in
+      let outcomes = outcomes_of tried js zs in
+      record {
+        refused = λ reserving fine. refusal fine;
+        history = ends_in tried js zs b;
+        doubted = front.adds;
+        same = subst (ShowsSame (ends_in tried js zs b)) front.is (shows_over shows entries d last same);
+        cut = λ w.
+            let c = cut_at_whole shows s (questions_of js) outcomes es b w sound some
+            (have_effects s tried js zs b judged) in
+            record {
+              outcomes = outcomes;
+              history = c.history;
+              told = c.told;
+              cut = c.cut;
+              sound = c.sound;
+              same = subst (λ x. ShowsSame x c.history) (ends_whole s tried js zs b of) c.same;
+            };
+        signed = λ w. signed_alike js zs sealing tried;
+        holds = holds;
+      }
+
+  -- where something was reserved, the store is open
+  held_open : (ws : List Waiting) (mid held : B) → IsCommitted g (map Reserved (map waiting_view ws)) mid held Fine
+      → g.honest held → ((ws ≡ []) × (held ≡ mid)) ⊎ g.is_open held
+  held_open ws mid held (untried none fine same) honest =
+      inl (map_none waiting_view ws (map_none Reserved (map waiting_view ws) none), same)
+  held_open ws mid held (added some fine a) honest = inr (a.opened honest).1
+  held_open ws mid held (refused some fault is storage a) honest = absurd (is_refused fault storage (sym is))
 
   -- what a stop after both commits may leave
-  left_assembled : (asked : List Question) (vs : List (Option Rule)) (ws : List Waiting)
-      (ss : List (Result (List ℕ) SignerFault)) (os : List Outcome) (sealing : Call) (b last : History)
-      (old mid new : B) (left : g.Left) → IsSound b → AreSplit asked vs ws → AreJudged s asked vs ws b
-      → AreAsMany ws ss os → length os ≡ length (pendings_in s ws)
-      → ((xs : List Outcome) → length xs ≡ length (pendings_in s ws) → AreAsMany ws ss xs)
-      → (ws ≡ [] → last ≡ b) → ShowsSame (seals_of (pendings_in s ws) ss os (with_waiting ws b)) last
-      → g.honest mid → g.honest new → Stands g (with_waiting ws b) mid → Stands g last new
-      → ((ws ≡ []) × LeavesAsBefore g old mid) ⊎ g.is_open mid
-      → (sealing ≡ Fine → AreAllSealed os → (new ≡ mid) ⊎ g.is_open new)
-      → MayBeLeftSealed g (pendings_in s ws) ss os (with_waiting ws b) mid left → g.leaves new left
-      → MayBeLeftTogether g s asked (outcomes_of vs ss os) Fine sealing b old last left
-  left_assembled asked vs ws ss os sealing b last old mid new left sound split judged many met as_many still same
-      honest_mid honest middle end opened_mid opened sealed r =
-      let ps = pendings_in s ws in
-      let d = with_waiting ws b in
-      elim (any_refused sealing os) [
-        | inl fine ↦ elim (opened fine.0 fine.1) [
-          | inr open_now ↦ inl (inr (inl (end.settled honest open_now left r)))
-          | inl unmoved ↦ elim opened_mid [
-            | inl none ↦ inl (inl (still none.0, none.1 left (subst (λ x. g.leaves x left) unmoved r)))
-            | inr open_mid ↦
-                inl (inr (inl (end.settled honest (subst g.is_open (sym unmoved) open_mid) left r)))
-          ]
+  left_after : (sealing : Call) (js : List JudgedStamp) (zs : List Completion) (vs : List SealValue) (b last : History)
+      (old mid held new : B) (left : g.Left) → IsSound b → AreJudged s js b → AreOf s js zs → vs ≡ seals_of Fine zs
+      → IsCommitted g (map Reserved (map waiting_view (waits_of js))) mid held Fine
+      → IsCommitted g (map seal_entry vs) held new sealing → g.honest new → (g.leaves mid left → g.leaves old left)
+      → (waits_of js ≡ [] → last ≡ b) → Stands g (with_waiting (waits_of js) b) held → Stands g last new
+      → ShowsSame (ends_in sealing js zs b) last → g.leaves new left
+      → MayBeLeftTogether g s (questions_of js) (outcomes_of sealing js zs) Fine sealing b old last left
+  left_after sealing js zs vs b last old mid held new left sound judged of are reserving (untried none fine same) honest
+      before still middle end shown r =
+      elim (held_open (waits_of js) mid held reserving (subst g.honest same honest)) [
+        | inl nothing ↦ inl (
+          still nothing.0,
+          before (subst (λ x. g.leaves x left) nothing.1 (subst (λ x. g.leaves x left) same r)),
+        )
+        | inr open_held ↦ inr (inl (end.settled honest (subst g.is_open (sym same) open_held) left r))
+      ]
+  left_after sealing js zs vs b last old mid held new left sound judged of are reserving (added some fine a) honest
+      before still middle end shown r = inr (inl (end.settled honest (a.opened honest).1 left r))
+  left_after sealing js zs vs b last old mid held new left sound judged of are reserving
+      (refused some fault is storage a) honest before still middle end shown r =
+      let d = with_waiting (waits_of js) b in
+      let refusal : sealing ≡ Fine → ⊥ = λ fine. is_refused fault storage (sym is ∙ fine) in
+      let none = void_seals sealing refusal zs in
+      let asked : questions_of js ≡ [] → ⊥ = λ nobody.
+      some (ap (map seal_entry) (are ∙ ap (seals_of Fine) (none_asked s js zs of nobody).1)) in
+      let same = subst (λ xs. ShowsSame (with_sealed xs d) last) none shown in
+      let doubt = λ (tried : Call) (holds : g.holds left (ends_in tried js zs b)).
+      doubtful sealing tried js zs b last left sound judged of asked refusal same holds in
+      elim (a.crash honest left r) [
+        | inl earlier ↦ elim (held_open (waits_of js) mid held reserving (a.honest honest)) [
+          | inl nothing ↦ inl (still nothing.0, before (subst (λ x. g.leaves x left) nothing.1 earlier))
+          | inr open_held ↦ inr (inr (doubt sealing (subst (λ xs. g.holds left (with_sealed xs d)) (sym none)
+              (middle.settled (a.honest honest) open_held left earlier))))
         ]
-        | inr refusal ↦ elim sealed [
-          | inl nothing ↦ elim opened_mid [
-            | inl none ↦ inl (inl (still none.0, none.1 left nothing.1))
-            | inr open_mid ↦
-                doubtful asked vs ws ss os sealing b last old left sound split judged many met as_many refusal still same
-                (record {
-                  outcomes = os;
-                  met = met;
-                  kept = kept_itself (completed ps ss os);
-                  holds = subst (λ vs. g.holds left (with_sealed vs d)) (sym nothing.0)
-                      (middle.settled honest_mid open_mid left nothing.1);
-                })
-          ]
-          | inr doubt ↦
-              doubtful asked vs ws ss os sealing b last old left sound split judged many met as_many refusal still same
-              doubt
-        ]
+        | inr adds ↦ inr (inr (doubt Fine (subst (λ xs. g.holds left (with_sealed xs d)) are
+            (adds d middle (fit_in js zs vs b of are sound judged)))))
       ]
 
   -- judged, reserved and completed together, they are a run
-  pub assembled : (asked : List Question) (vs : List (Option Rule)) (ws : List Waiting)
-      (ss : List (Result (List ℕ) SignerFault)) (os : List Outcome) (sealing : Call)
-      (answers completions : List Answer) (old mid : B) (x : S) (new : B) (y : S) → AreSplit asked vs ws
-      → AreJudgedUnasked s.file asked vs → g.fault_count mid ≡ g.fault_count old → (g.honest new → g.honest mid)
-      → (g.honest mid → (b : History) → Stands g b old → AreJudged s asked vs ws b)
-      → (g.honest mid → (b : History) → Stands g b old → Stands g (with_waiting ws b) mid)
-      → (g.honest mid → ((ws ≡ []) × LeavesAsBefore g old mid) ⊎ g.is_open mid)
-      → CompletesEach g signs count (pendings_in s ws) ss os sealing mid x new y completions
-      → answers ≡ merged vs completions
+  whole : (js : List JudgedStamp) (zs : List Completion) (vs : List SealValue) (answers told completions : List Answer)
+      (sealing : Call) (old mid held : B) (x : S) (new : B) (y : S) → AreOf s js zs → Grow zs
+      → vs ≡ seals_of Fine zs → told ≡ replies_of zs → JudgesEach g s (questions_of js) (rules_of js) (waits_of js) old mid
+      → AllByRecursion (IsJudgedRightly s) js
+      → g.fault_count mid ≡ faults_along (all_looks js) (g.fault_count old)
+      → (g.honest mid → (b : History) → Stands g b old → AreJudged s js b)
+      → IsCommitted g (map Reserved (map waiting_view (waits_of js))) mid held Fine
+      → SignsEach signs x (texts_of (pendings_in s (waits_of js))) (signings_of zs) y
+      → count y ≡ count_after_each (signings_of zs) (count x) → IsCommitted g (map seal_entry vs) held new sealing
+      → IsToldBy sealing told completions → answers ≡ merged (rules_of js) completions
       → ((b d : History) → Stands g b new → IsSound d → ShowsSame b d → Stands g d new)
-      → IsAnsweredTogether g signs count s asked answers old x new y
-  assembled asked vs ws ss os sealing answers completions old mid x new y split unasked counts before judges reserves
-      opens c says tell =
-      let many = many_of signs s ws ss os x y c.signed c.met in
-      let outcomes = outcomes_of vs ss os in
-      let es = effects_of s vs ws ss os in
-      let ps = pendings_in s ws in
+      → IsAnsweredTogether g signs count s (questions_of js) answers old x new y
+  whole js zs vs answers told completions sealing old mid held x new y of grow are told_are judges rightly counts judged
+      reserving signed signer sealed by says tell =
+      let outcomes = outcomes_of sealing js zs in
+      let es = effects_of s sealing js zs in
       record {
         outcomes = outcomes;
-        fits = are_fit asked vs ws ss os many split c.grows;
+        fits = are_fit s sealing js zs rightly grow;
+        looks = all_looks js;
+        uncommitted = looks_uncommitted js;
         reserving = Fine;
         sealing = sealing;
-        counted = c.counted
-            ∙ (swapped_sealing os sealing (g.fault_count mid)
-            ∙ (ap (counted sealing) (sym (faults_counted asked vs ws ss os (g.fault_count mid) many split))
-            ∙ ap (λ n. counted sealing (faults_along outcomes n)) counts));
-        signer = c.signer ∙ signers_counted asked vs ws ss os (count x) many split;
-        judged = subst (AreRejectedUnasked s.file asked) (sym says)
-            (rejected_unasked s.file asked vs completions unasked);
+        counted = commit_counted g (map seal_entry vs) held new sealing sealed
+            ∙ ap (counted sealing)
+            (commit_counted g (map Reserved (map waiting_view (waits_of js))) mid held Fine reserving ∙ counts);
+        signer = signer ∙ signers_counted s sealing js zs (count x) of rightly;
+        judged = subst (AreRejectedUnasked s.file (questions_of js)) (sym says)
+            (rejected_unasked s js completions rightly);
         run = λ honest b stands.
-            let judged = judges (before honest) b stands in
-            let have = have_effects s asked vs ws ss os b many judged in
-            let moves = move_in_turn signs s asked vs ws ss os b x y many judged c.signed in
-            let run = reaches signs shows s asked outcomes es b b x y (judges_itself b) stands.sound have moves in
-            let d = with_waiting ws b in
-            let middle = reserves (before honest) b stands in
-            let sealed = c.seals honest d middle (all_wait s asked vs ws b stands.sound judged) in
-            let reserved = reserves_all s asked vs ws ss os b many judged in
-            let whole : after_batch (batch_of es) b ≡ seals_of ps ss os d =
-            ap (λ v. with_sealed v (with_reserved (all_reserved es) b)) (seals_all s asked vs ws ss os b many judged)
-            ∙ ap (λ rs. seals_of ps ss os (with_reserved rs b)) reserved in
-            let answered : answers ≡ map (λ e. e.says) es =
-            says ∙ (ap (merged vs) c.says ∙ sym (says_all s asked vs ws ss os b many judged)) in
-            let runs = subst (λ a. Runs signs s (stamps_for asked) outcomes b x a run.history y) (sym answered) run.runs in
-            let same = subst (λ e. ShowsSame e run.history) whole run.same in
-            let end = tell (seals_of ps ss os d) run.history sealed.stands run.sound same in
+            let honest_held = commit_honest g (map seal_entry vs) held new sealing sealed honest in
+            let honest_mid = commit_honest g (map Reserved (map waiting_view (waits_of js))) mid held Fine reserving
+            honest_held in
+            let are_judged = judged honest_mid b stands in
+            let have = have_effects s sealing js zs b are_judged in
+            let moves = move_in_turn signs s sealing js zs x y signed in
+            let run = reaches signs shows s (questions_of js) outcomes es b b x y (judges_itself b) stands.sound have
+            moves in
+            let d = with_waiting (waits_of js) b in
+            let entries = map Reserved (map waiting_view (waits_of js)) in
+            let middle = commit_stands g entries mid held Fine b reserving refl (judges.looks.stands b stands)
+            (fit_each entries b (judged_sound s js b are_judged stands.sound)) in
+            let shown = subst (λ e. ShowsSame e run.history) (ends_whole s sealing js zs b of) run.same in
+            let end = tell (ends_in sealing js zs b) run.history
+            (stands_in sealing js zs vs b held new of are stands.sound are_judged sealed middle) run.sound shown in
+            let answered = says ∙ sym (says_by s sealing js zs told completions of told_are by) in
+            let runs = subst (λ a. Runs signs s (stamps_for (questions_of js)) outcomes b x a run.history y)
+            (sym answered) run.runs in
             record {
               history = run.history;
               runs = runs;
               stands = end;
-              left = λ left r. left_assembled asked vs ws ss os sealing b run.history old mid new left stands.sound split
-                  judged many c.met (λ xs met. many_of signs s ws ss xs x y c.signed met)
-                  (λ none. run.still (reserved ∙ ap (map waiting_view) none)) same (before honest) honest middle end
-                  (opens (before honest)) (c.opened honest) (sealed.left left r) r;
-              promises = promised_along signs laws s asked outcomes b x answers run.history y stands.sound runs;
+              left = λ left r. left_after sealing js zs vs b run.history old mid held new left stands.sound are_judged of
+                  are reserving sealed honest (judges.looks.leaves honest_mid left)
+                  (λ none. run.still (reserves_all s sealing js zs ∙ ap (map waiting_view) none)) middle end shown r;
+              promises = promised_along signs laws s (questions_of js) outcomes b x answers run.history y stands.sound
+                  runs;
             };
       }
 
-  -- stamps ask nothing of their caller
-  stamps_met : (asked : List Question) (os : List Outcome) (b : History) → AreMet s (stamps_for asked) os b
-  stamps_met [] os b = tt
-  stamps_met (a ∷ asked) (o ∷ os) b = (tt, λ e h. stamps_met asked os (after e b))
-  stamps_met (a ∷ asked) [] b = tt
-
-  -- what a stop may leave after the first commit was refused
-  left_turned : (asked : List Question) (vs : List (Option Rule)) (ws : List Waiting) (os : List Outcome)
-      (r : StampRefusal) (b last : History) (old mid : B) (left : g.Left) → IsSound b → AreFit asked os
-      → (g.leaves mid left → g.leaves old left ⊎ IsReservedInDoubt g s asked vs ws r b left)
-      → MayBeLeftBy g s (stamps_for asked) os b mid last left
-      → MayBeLeftTogether g s asked os (refused_call r) Fine b old last left
-  left_turned asked vs ws os r b last old mid left sound fit before (inl same) =
-      elim (before same.1) [
-        | inl long_before ↦ inl (inl (same.0, long_before))
-        | inr doubt ↦ inr (reserved_doubt g shows s asked os r vs ws b last left sound fit same.0 doubt)
-      ]
-  left_turned asked vs ws os r b last old mid left sound fit before (inr other) = inl (inr other)
-
-  -- where the batch was given up, and nothing was done, they are answered one after the other
-  pub turned : IsProper s → (asked : List Question) (vs : List (Option Rule)) (ws : List Waiting) (os : List Outcome)
-      (answers : List Answer) (old mid : B) (x : S) (new : B) (y : S) (r : StampRefusal)
-      → g.fault_count mid ≡ faults_after (refused r) (g.fault_count old)
-      → ((b : History) → Stands g b old → Stands g b mid)
-      → (g.honest mid → (b : History) → Stands g b old → (left : g.Left) → g.leaves mid left
-      → g.leaves old left ⊎ IsReservedInDoubt g s asked vs ws r b left)
-      → AreRejectedUnasked s.file asked answers
-      → AreSteps g signs count s (stamps_for asked) os answers mid x s new y
+  pub assembled : (asked : List Question) (rules : List (Option Rule)) (ws : List Waiting)
+      (ss : List (Result (List ℕ) SignerFault)) (vs : List SealValue) (answers told completions : List Answer)
+      (sealing : Call) (old mid held : B) (x : S) (new : B) (y : S) → JudgesEach g s asked rules ws old mid
+      → IsCommitted g (map Reserved (map waiting_view ws)) mid held Fine
+      → SignsEach signs x (texts_of (pendings_in s ws)) ss y → count y ≡ count_after_each ss (count x)
+      → AreWritten (pendings_in s ws) ss vs told → IsCommitted g (map seal_entry vs) held new sealing
+      → IsToldBy sealing told completions → answers ≡ merged rules completions
+      → ((b d : History) → Stands g b new → IsSound d → ShowsSame b d → Stands g d new)
       → IsAnsweredTogether g signs count s asked answers old x new y
-  turned proper asked vs ws os answers old mid x new y r counts stays lefts unasked h =
-      let fit = stepped_fit g signs count s asked os answers mid x s new y h in
+  assembled asked rules ws ss vs answers told completions sealing old mid held x new y h reserving signed signer written
+      sealed by says tell =
+      let js = h.stamps in
+      let zs = written.completions in
+      let own : JudgesEach g s (questions_of js) (rules_of js) (waits_of js) old mid = record {
+        stamps = js;
+        questions = refl;
+        rules_are = refl;
+        waits = refl;
+        rightly = h.rightly;
+        looks = h.looks;
+        counted = h.counted;
+        judged = h.judged;
+      } in
+      subst (λ qs. IsAnsweredTogether g signs count s qs answers old x new y) h.questions
+      (whole js zs vs answers told completions sealing old mid held x new y
+      (written.pendings ∙ ap (pendings_in s) (sym h.waits)) written.grows written.seals_are written.says own h.rightly
+      h.counted h.judged
+      (subst (λ xs. IsCommitted g (map Reserved (map waiting_view xs)) mid held Fine) (sym h.waits) reserving)
+      (subst (λ xs. SignsEach signs x (texts_of (pendings_in s xs)) (signings_of zs) y) (sym h.waits)
+      (subst (λ xs. SignsEach signs x (texts_of (pendings_in s ws)) xs y) (sym written.signed) signed))
+      (subst (λ xs. count y ≡ count_after_each xs (count x)) (sym written.signed) signer) sealed by
+      (says ∙ ap (λ rs. merged rs completions) (sym h.rules_are)) tell)
+
+  -- the commit of the reservations was refused, and each is judged anew: nothing is added
+  unreserved_doubt : (js ks : List JudgedStamp) (reserving : Call) (b : History) (left : g.Left) → IsSound b
+      → AreJudged s js b → questions_of ks ≡ questions_of js → (questions_of js ≡ [] → ⊥) → (reserving ≡ Fine → ⊥)
+      → g.holds left (with_waiting (waits_of js) b)
+      → IsDoubtedTogether g s (questions_of js) (outcomes_of Fine ks []) reserving Fine b b left
+  unreserved_doubt js ks reserving b left sound judged same some refusal holds =
+      let d = with_waiting (waits_of js) b in
+      let front = are_in_front (map Reserved (map waiting_view (waits_of js))) b in
+      let es = effects_of s Fine js [] in
+      let outcomes = outcomes_of Fine js [] in
+      let ends : with_reserved (all_reserved es) b ≡ d = ap (λ rs. with_reserved rs b) (reserves_all s Fine js []) in
       record {
-        outcomes = os;
-        fits = fit;
-        reserving = refused_call r;
+        refused = λ fine sealing. refusal fine;
+        history = d;
+        doubted = front.adds;
+        same = subst (ShowsSame d) front.is (shows_itself d);
+        cut = λ w.
+            let c = cut_once_reserved shows s (questions_of js) outcomes es b w sound some
+            (have_effects s Fine js [] b judged) in
+            record {
+              outcomes = map unsigned outcomes;
+              history = c.history;
+              told = c.told;
+              cut = c.cut;
+              sound = c.sound;
+              same = subst (λ x. ShowsSame x c.history) ends c.same;
+            };
+        signed = λ w. unsigned_alike ks js [] [] Fine Fine same;
+        holds = holds;
+      }
+
+  left_unreserved : (js ks : List JudgedStamp) (ws : List Waiting) (reserving : Call) (b : History) (old mid held : B)
+      (left : g.Left) → IsSound b → waits_of js ≡ ws → AreJudged s js b → questions_of ks ≡ questions_of js
+      → IsCommitted g (map Reserved (map waiting_view ws)) mid held reserving → (reserving ≡ Fine → ⊥) → g.honest held
+      → (g.leaves mid left → g.leaves old left) → Stands g b mid → g.leaves held left
+      → MayBeLeftTogether g s (questions_of ks) (outcomes_of Fine ks []) reserving Fine b old b left
+  left_unreserved js ks ws reserving b old mid held left sound waits judged same (untried none fine is) refusal honest
+      before stands r = absurd (refusal fine)
+  left_unreserved js ks ws reserving b old mid held left sound waits judged same (added some fine a) refusal honest
+      before stands r = absurd (refusal fine)
+  left_unreserved js ks ws reserving b old mid held left sound waits judged same (refused some fault is storage a)
+      refusal honest before stands r =
+      elim (a.crash honest left r) [
+        | inl earlier ↦ inl (refl, before earlier)
+        | inr adds ↦
+            let entries = map Reserved (map waiting_view ws) in
+            let sound_held = subst (λ xs. IsSound (with_waiting xs b)) waits (judged_sound s js b judged sound) in
+            let asked : questions_of js ≡ [] → ⊥ = λ nobody.
+            some (ap (λ xs. map Reserved (map waiting_view xs))
+            (sym waits ∙ none_waits js nobody)) in
+            inr (inr (subst (λ qs. IsDoubtedTogether g s qs (outcomes_of Fine ks []) reserving Fine b b left) (sym same)
+            (unreserved_doubt js ks reserving b left sound judged same asked refusal
+            (subst (λ xs. g.holds left (with_waiting xs b)) (sym waits) (adds b stands (fit_each entries b sound_held))))))
+      ]
+
+  pub unreserved : (asked : List Question) (rules rules' : List (Option Rule)) (ws : List Waiting)
+      (answers : List Answer) (reserving : Call) (old mid held new : B) (x : S) → JudgesEach g s asked rules ws old mid
+      → IsCommitted g (map Reserved (map waiting_view ws)) mid held reserving → (reserving ≡ Fine → ⊥)
+      → JudgesEach g s asked rules' [] held new → answers ≡ merged rules' []
+      → IsAnsweredTogether g signs count s asked answers old x new x
+  unreserved asked rules rules' ws answers reserving old mid held new x h commit refusal again says =
+      let js = h.stamps in
+      let ks = again.stamps in
+      let none : AreOf s ks [] = ap (pendings_in s) (sym again.waits) in
+      let outcomes = outcomes_of Fine ks [] in
+      let es = effects_of s Fine ks [] in
+      let n = g.fault_count old in
+      let same : questions_of ks ≡ questions_of js = again.questions ∙ sym h.questions in
+      let entries = map Reserved (map waiting_view ws) in
+      subst (λ qs. IsAnsweredTogether g signs count s qs answers old x new x) again.questions
+      (record {
+        outcomes = outcomes;
+        fits = are_fit s Fine ks [] again.rightly tt;
+        looks = all_looks js ++ all_looks ks;
+        uncommitted = all_both (λ o. (o.adding ≡ Fine) × (o.sealing ≡ Fine)) (all_looks js) (all_looks ks)
+            (looks_uncommitted js) (looks_uncommitted ks);
+        reserving = reserving;
         sealing = Fine;
-        counted = stepped_faults g signs count s asked os answers mid x s new y h
-            ∙ (ap (faults_along os) (counts ∙ refused_once r (g.fault_count old))
-            ∙ swapped_along os (refused_call r) (g.fault_count old));
-        signer = stepped_signer g signs count s asked os answers mid x s new y h;
-        judged = unasked;
+        counted = again.counted
+            ∙ (ap (faults_along (all_looks ks)) (commit_counted g entries mid held reserving commit
+            ∙ ap (counted reserving) h.counted)
+            ∙ (swapped_along (all_looks ks) reserving (faults_along (all_looks js) n)
+            ∙ ap (counted reserving) (sym (along_both (all_looks js) (all_looks ks) n))));
+        signer = signers_counted s Fine ks [] (count x) none again.rightly;
+        judged = subst (AreRejectedUnasked s.file (questions_of ks))
+            (sym (says ∙ ap (λ rs. merged rs []) (sym again.rules_are))) (rejected_unasked s ks [] again.rightly);
         run = λ honest b stands.
-            let run = (steps_run g signs count laws s proper (stamps_for asked) os answers mid x s new y h).run honest b
-            (stays b stands) (stamps_met asked os b) in
-            let before = honest_before g signs count s (stamps_for asked) os answers mid x s new y h honest in
+            let honest_held = again.looks.honest honest in
+            let honest_mid = commit_honest g entries mid held reserving commit honest_held in
+            let middle = commit_kept g entries mid held reserving b commit refusal (h.looks.stands b stands) in
+            let judged = again.judged honest b middle in
+            let run = reaches signs shows s (questions_of ks) outcomes es b b x x (judges_itself b) stands.sound
+            (have_effects s Fine ks [] b judged) (move_in_turn signs s Fine ks [] x x
+            (subst (λ xs. SignsEach signs x (texts_of (pendings_in s xs)) [] x) (sym again.waits) refl)) in
+            let still = run.still (reserves_all s Fine ks [] ∙ ap (map waiting_view) again.waits) in
+            let answered = says ∙ (ap (λ rs. merged rs []) (sym again.rules_are) ∙ sym (says_all s ks [] none)) in
+            let runs = subst (λ a. Runs signs s (stamps_for (questions_of ks)) outcomes b x a run.history x)
+            (sym answered) run.runs in
             record {
               history = run.history;
-              runs = run.runs;
-              stands = run.stands;
-              left = λ left k. left_turned asked vs ws os r b run.history old mid left stands.sound fit
-                  (lefts before b stands left) (run.left left k);
-              promises = run.promises;
+              runs = runs;
+              stands = subst (λ d. Stands g d new) (sym still) (again.looks.stands b middle);
+              left = λ left r. subst (λ d. MayBeLeftTogether g s (questions_of ks) outcomes reserving Fine b old d left)
+                  (sym still)
+                  (left_unreserved js ks ws reserving b old mid held left stands.sound h.waits
+                  (h.judged honest_mid b stands) same commit refusal honest_held (h.looks.leaves honest_mid left)
+                  (h.looks.stands b stands) (again.looks.leaves honest left r));
+              promises = promised_along signs laws s (questions_of ks) outcomes b x answers run.history x stands.sound
+                  runs;
             };
-      }
+      })

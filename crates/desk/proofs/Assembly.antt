@@ -1,71 +1,83 @@
 -- Stamps that were judged, reserved and completed together are a batch of the machine.
-use Rattle.std.proofs.Common.{◌≡◌, ℕ, ◌<◌, ◌≤◌, List, [], ◌∷◌, ◌++◌, map, length, Option, Some, None, Result, Ok, Err}
+use Rattle.std.proofs.Common.{◌≡◌, ℕ, ◌<◌, ◌≤◌, List, [], ◌∷◌, ◌++◌, map, Option, Some, None, Result, Ok, Err}
 use Rattle.std.proofs.Common.{refl, sym, ap, ◌∙◌, subst, arith}
 use Rattle.std.specs.List.{AllByRecursion}
 use Rattle.std.proofs.lemmas.Bool.{eq-eqb}
-use Rattle.policy.specs.Record.{AccountValue}
 use Rattle.tsp.specs.declared.rule.Rule.{Rule}
+use Rattle.tsp.specs.declared.rule.Rule.TheVariants.{System}
 use Rattle.cms.specs.SignedData.{attribute_text}
 use Rattle.cms.specs.Signer.{count_after, count_after_each, SignsEach}
 use Rattle.cms.specs.declared.signer.SignerFault.{SignerFault}
+use Rattle.cms.specs.declared.signer.SignerFault.TheVariants as signer
 use Rattle.book.specs.History.{Reserved, History, ReservationValue, reservations}
 use Rattle.book.specs.History.{greatest_serial}
 use Rattle.book.specs.Sound.{FitsReserved, IsSound}
 use Rattle.desk.specs.Batches.{Question, stamp_for, seals, with_reserved, HaveEffects}
-use Rattle.desk.specs.Batches.{all_reserved, all_sealed, MoveInTurn, faults_along}
-use Rattle.desk.specs.Command.{Setting, PendingValue, Rejected}
-use Rattle.desk.specs.Completions.{texts_of, completed, AreWaiting, faults_sealing}
+use Rattle.desk.specs.Batches.{all_reserved, all_sealed, MoveInTurn}
+use Rattle.desk.specs.Command.{Setting, PendingValue, Answer, Rejected}
+use Rattle.desk.specs.Completions.{Completion, finished, completed, seals_of, texts_of, AreWaiting}
 use Rattle.desk.specs.Effects.{Effect, only, no_number, no_seal, next_reservation, stamping_of, stamp_effect, name_of}
-use Rattle.desk.specs.Findings.{Fails, Allowed}
-use Rattle.desk.specs.Fit.{IsUncounted, counting_for}
-use Rattle.desk.specs.Outcome.{Fine, Outcome, Cause, counted, all_fine}
+use Rattle.desk.specs.Findings.{Allowed}
+use Rattle.desk.specs.Fit.{IsFit, IsUncounted}
+use Rattle.desk.specs.Outcome.{Call, Fine, Outcome, Cause, all_fine}
 use Rattle.desk.specs.MachineStep.{HasEffect, IsWaiting, Moves}
 use Rattle.desk.specs.Texts.{pending_of}
-use Rattle.desk.specs.Together.{Awaits, AreJudged, AreSplit, AreFit, merged}
+use Rattle.desk.specs.Together.{Awaits, Verdict, Settled, Waits, JudgedStamp, rule_of, rules_of, met_by, waiting_before}
+use Rattle.desk.specs.Together.{waits_of, reserved_for, IsJudgedAs, AreJudged, IsJudgedRightly, AreFit, merged}
 use Rattle.desk.specs.WaitingStamps.{waiting_view, pending_in, pendings_in, with_waiting}
 use Rattle.desk.specs.Wholes.{joined, sealed_by, stamped}
 use Rattle.desk.specs.declared.waiting_stamp.Waiting.{Waiting}
-use Rattle.desk.proofs.BatchJudgement.{waiting_fits}
+use Rattle.desk.proofs.BatchJudgement.{waiting_fits, with_before, fits_stamp}
+use Rattle.desk.proofs.CompletionLemmas.{void_one}
 use Rattle.desk.proofs.Reserves.{left_number}
 use Rattle.desk.proofs.Stamps.{finds_joined, stamped_by}
 use Rattle.desk.proofs.Views.{unsealed_above, reservation_stays}
 
+abbrev pub questions_of : List JudgedStamp → List Question
+questions_of js = map (λ j. j.question) js
+
+abbrev pub pendings_of : List Completion → List PendingValue
+pendings_of zs = map (λ z. z.pending) zs
+
+abbrev pub signings_of : List Completion → List (Result (List ℕ) SignerFault)
+signings_of zs = map (λ z. z.signing) zs
+
+-- of what was completed the first, and what is behind a stamp that was judged so
+abbrev pub signing_of : List Completion → Result (List ℕ) SignerFault
+signing_of [] = Err signer.Memory
+signing_of (z ∷ zs) = z.signing
+
+abbrev pub finish_of : Call → List Completion → Outcome
+finish_of sealing [] = record (all_fine (Ok [])) { sealing = sealing }
+finish_of sealing (z ∷ zs) = finished sealing z
+
+abbrev pub rest_of : List Completion → List Completion
+rest_of [] = []
+rest_of (z ∷ zs) = zs
+
+abbrev pub behind : Verdict → List Completion → List Completion
+behind (Settled rule o) zs = zs
+behind (Waits w) zs = rest_of zs
+
 -- the outcome and the effect of each stamp
-abbrev pub outcomes_of : List (Option Rule) → List (Result (List ℕ) SignerFault) → List Outcome → List Outcome
-outcomes_of [] signings os = []
-outcomes_of (Some rule ∷ vs) signings os = all_fine (Ok []) ∷ outcomes_of vs signings os
-outcomes_of (None ∷ vs) (signing ∷ signings) (o ∷ os) =
-    joined (all_fine (Ok [])) signing o ∷ outcomes_of vs signings os
-outcomes_of (None ∷ vs) [] os = []
-outcomes_of (None ∷ vs) (signing ∷ signings) [] = []
+abbrev pub outcome_in : Call → Verdict → List Completion → Outcome
+outcome_in sealing (Settled rule o) zs = o
+outcome_in sealing (Waits w) zs = joined (all_fine (Ok [])) (signing_of zs) (finish_of sealing zs)
 
-abbrev pub effects_of : Setting → List (Option Rule) → List Waiting → List (Result (List ℕ) SignerFault)
-    → List Outcome → List Effect
-effects_of s [] ws signings os = []
-effects_of s (Some rule ∷ vs) ws signings os = only (Rejected rule) ∷ effects_of s vs ws signings os
-effects_of s (None ∷ vs) (w ∷ ws) (signing ∷ signings) (o ∷ os) =
-    stamped (pending_in s w) signing (Reserved (waiting_view w) ∷ []) o ∷ effects_of s vs ws signings os
-effects_of s (None ∷ vs) [] signings os = []
-effects_of s (None ∷ vs) (w ∷ ws) [] os = []
-effects_of s (None ∷ vs) (w ∷ ws) (signing ∷ signings) [] = []
+abbrev pub effect_in : Setting → Call → Verdict → List Completion → Effect
+effect_in s sealing (Settled rule o) zs = only (Rejected rule)
+effect_in s sealing (Waits w) zs =
+    stamped (pending_in s w) (signing_of zs) (Reserved (waiting_view w) ∷ []) (finish_of sealing zs)
 
--- as many signatures and outcomes as wait
-abbrev pub AreAsMany : {X Y Z : Type 0} → List X → List Y → List Z → Type 0
-AreAsMany [] [] [] = Unit {0}
-AreAsMany (x ∷ xs) (y ∷ ys) (z ∷ zs) = AreAsMany xs ys zs
-AreAsMany [] (y ∷ ys) zs = ⊥
-AreAsMany [] [] (z ∷ zs) = ⊥
-AreAsMany (x ∷ xs) [] zs = ⊥
-AreAsMany (x ∷ xs) (y ∷ ys) [] = ⊥
+abbrev pub outcomes_of : Call → List JudgedStamp → List Completion → List Outcome
+outcomes_of sealing [] zs = []
+outcomes_of sealing (j ∷ js) zs =
+    outcome_in sealing j.verdict zs ∷ outcomes_of sealing js (behind j.verdict zs)
 
-pub as_many : {X Y Z : Type 0} (xs : List X) (ys : List Y) (zs : List Z) → length ys ≡ length xs
-    → length zs ≡ length xs → AreAsMany xs ys zs
-as_many [] [] [] e f = tt
-as_many (x ∷ xs) (y ∷ ys) (z ∷ zs) e f = as_many xs ys zs (omega arith) (omega arith)
-as_many [] (y ∷ ys) zs e f = absurd (omega arith)
-as_many [] [] (z ∷ zs) e f = absurd (omega arith)
-as_many (x ∷ xs) [] zs e f = absurd (omega arith)
-as_many (x ∷ xs) (y ∷ ys) [] e f = absurd (omega arith)
+abbrev pub effects_of : Setting → Call → List JudgedStamp → List Completion → List Effect
+effects_of s sealing [] zs = []
+effects_of s sealing (j ∷ js) zs =
+    effect_in s sealing j.verdict zs ∷ effects_of s sealing js (behind j.verdict zs)
 
 -- what a stamp that waited does besides its reservation is what its completion does
 sealed_besides : (p : PendingValue) (signature : List ℕ) (r : ReservationValue) (why : Option Cause)
@@ -99,86 +111,127 @@ waited s a b w signing o h =
           ∙ ap (λ x. stamp_effect s (stamping_of s (name_of a.account) h.plan a.octets whole b x)) (sym why))),
     )
 
-pub have_effects : (s : Setting) (asked : List Question) (vs : List (Option Rule)) (ws : List Waiting)
-    (signings : List (Result (List ℕ) SignerFault)) (os : List Outcome) (b : History) → AreAsMany ws signings os
-    → AreJudged s asked vs ws b
-    → HaveEffects s asked (outcomes_of vs signings os) b (effects_of s vs ws signings os)
-have_effects s [] [] [] [] [] b many h = tt
-have_effects s (a ∷ asked) (Some rule ∷ vs) ws signings os b many h =
-    ((Fails rule, h.0, refl), have_effects s asked vs ws signings os b many h.1)
-have_effects s (a ∷ asked) (None ∷ vs) (w ∷ ws) (signing ∷ signings) (o ∷ os) b many h =
-    let r = waiting_view w in
-    let rest = have_effects s asked vs ws signings os (Reserved r ∷ b) many h.1 in (
-      waited s a b w signing o h.0,
-      subst (λ rs. HaveEffects s asked (outcomes_of vs signings os) (with_reserved rs b)
-          (effects_of s vs ws signings os)) (sym (besides (pending_in s w) signing r o).0) rest,
+has_one : (s : Setting) (sealing : Call) (a : Question) (v : Verdict) (zs : List Completion) (b : History)
+    → IsJudgedAs s a v b → HasEffect s (stamp_for a) (outcome_in sealing v zs) b (effect_in s sealing v zs)
+has_one s sealing a (Settled rule o) zs b h = h
+has_one s sealing a (Waits w) zs b h = waited s a b w (signing_of zs) (finish_of sealing zs) h
+
+reserves_one : (s : Setting) (sealing : Call) (v : Verdict) (zs : List Completion) (b : History)
+    → with_reserved (reservations (effect_in s sealing v zs).adds) b ≡ reserved_for v b
+reserves_one s sealing (Settled rule o) zs b = refl
+reserves_one s sealing (Waits w) zs b =
+    ap (λ rs. with_reserved rs b)
+    (besides (pending_in s w) (signing_of zs) (waiting_view w) (finish_of sealing zs)).0
+
+pub have_effects : (s : Setting) (sealing : Call) (js : List JudgedStamp) (zs : List Completion) (b : History)
+    → AreJudged s js b
+    → HaveEffects s (questions_of js) (outcomes_of sealing js zs) b (effects_of s sealing js zs)
+have_effects s sealing [] zs b h = tt
+have_effects s sealing (j ∷ js) zs b h =
+    let zs' = behind j.verdict zs in (
+      has_one s sealing j.question j.verdict zs b h.0,
+      subst (λ d. HaveEffects s (questions_of js) (outcomes_of sealing js zs') d (effects_of s sealing js zs'))
+          (sym (reserves_one s sealing j.verdict zs b))
+          (have_effects s sealing js zs' (reserved_for j.verdict b) h.1),
     )
-have_effects s (a ∷ asked) (None ∷ vs) [] signings os b many h = absurd h
-have_effects s (a ∷ asked) (None ∷ vs) (w ∷ ws) [] os b many h = absurd many
-have_effects s (a ∷ asked) (None ∷ vs) (w ∷ ws) (signing ∷ signings) [] b many h = absurd many
-have_effects s [] [] [] (signing ∷ signings) os b many h = absurd many
-have_effects s [] [] [] [] (o ∷ os) b many h = absurd many
-have_effects s [] [] (w ∷ ws) signings os b many h = absurd h
-have_effects s [] (v ∷ vs) ws signings os b many h = absurd h
-have_effects s (a ∷ asked) [] ws signings os b many h = absurd h
 
 -- all that they reserve, seal and say
-pub reserves_all : (s : Setting) (asked : List Question) (vs : List (Option Rule)) (ws : List Waiting)
-    (signings : List (Result (List ℕ) SignerFault)) (os : List Outcome) (b : History) → AreAsMany ws signings os
-    → AreJudged s asked vs ws b
-    → all_reserved (effects_of s vs ws signings os) ≡ map waiting_view ws
-reserves_all s [] [] [] signings os b many h = refl
-reserves_all s (a ∷ asked) (Some rule ∷ vs) ws signings os b many h =
-    reserves_all s asked vs ws signings os b many h.1
-reserves_all s (a ∷ asked) (None ∷ vs) (w ∷ ws) (signing ∷ signings) (o ∷ os) b many h =
-    let r = waiting_view w in
-    ap (λ rs. rs ++ all_reserved (effects_of s vs ws signings os)) (besides (pending_in s w) signing r o).0
-    ∙ ap (λ rs. r ∷ rs) (reserves_all s asked vs ws signings os (Reserved r ∷ b) many h.1)
-reserves_all s (a ∷ asked) (None ∷ vs) [] signings os b many h = absurd h
-reserves_all s (a ∷ asked) (None ∷ vs) (w ∷ ws) [] os b many h = absurd many
-reserves_all s (a ∷ asked) (None ∷ vs) (w ∷ ws) (signing ∷ signings) [] b many h = absurd many
-reserves_all s [] [] (w ∷ ws) signings os b many h = absurd h
-reserves_all s [] (v ∷ vs) ws signings os b many h = absurd h
-reserves_all s (a ∷ asked) [] ws signings os b many h = absurd h
+reserves_step : (s : Setting) (sealing : Call) (v : Verdict) (zs : List Completion) (ws : List Waiting)
+    (rs : List ReservationValue) → rs ≡ map waiting_view ws
+    → reservations (effect_in s sealing v zs).adds ++ rs ≡ map waiting_view (waiting_before v ws)
+reserves_step s sealing (Settled rule o) zs ws rs is = is
+reserves_step s sealing (Waits w) zs ws rs is =
+    ap (λ one. one ++ rs) (besides (pending_in s w) (signing_of zs) (waiting_view w) (finish_of sealing zs)).0
+    ∙ ap (λ others. waiting_view w ∷ others) is
 
-pub seals_all : (s : Setting) (asked : List Question) (vs : List (Option Rule)) (ws : List Waiting)
-    (signings : List (Result (List ℕ) SignerFault)) (os : List Outcome) (b : History) → AreAsMany ws signings os
-    → AreJudged s asked vs ws b
-    → all_sealed (effects_of s vs ws signings os) ≡ all_sealed (completed (pendings_in s ws) signings os)
-seals_all s [] [] [] signings os b many h = refl
-seals_all s (a ∷ asked) (Some rule ∷ vs) ws signings os b many h =
-    seals_all s asked vs ws signings os b many h.1
-seals_all s (a ∷ asked) (None ∷ vs) (w ∷ ws) (signing ∷ signings) (o ∷ os) b many h =
-    let r = waiting_view w in
-    ap (λ one. one ++ all_sealed (effects_of s vs ws signings os)) (besides (pending_in s w) signing r o).1.0
-    ∙ ap (λ others. seals (stamped (pending_in s w) signing [] o).adds ++ others)
-    (seals_all s asked vs ws signings os (Reserved r ∷ b) many h.1)
-seals_all s (a ∷ asked) (None ∷ vs) [] signings os b many h = absurd h
-seals_all s (a ∷ asked) (None ∷ vs) (w ∷ ws) [] os b many h = absurd many
-seals_all s (a ∷ asked) (None ∷ vs) (w ∷ ws) (signing ∷ signings) [] b many h = absurd many
-seals_all s [] [] (w ∷ ws) signings os b many h = absurd h
-seals_all s [] (v ∷ vs) ws signings os b many h = absurd h
-seals_all s (a ∷ asked) [] ws signings os b many h = absurd h
+pub reserves_all : (s : Setting) (sealing : Call) (js : List JudgedStamp) (zs : List Completion)
+    → all_reserved (effects_of s sealing js zs) ≡ map waiting_view (waits_of js)
+reserves_all s sealing [] zs = refl
+reserves_all s sealing (j ∷ js) zs =
+    reserves_step s sealing j.verdict zs (waits_of js) (all_reserved (effects_of s sealing js (behind j.verdict zs)))
+    (reserves_all s sealing js (behind j.verdict zs))
 
-pub says_all : (s : Setting) (asked : List Question) (vs : List (Option Rule)) (ws : List Waiting)
-    (signings : List (Result (List ℕ) SignerFault)) (os : List Outcome) (b : History) → AreAsMany ws signings os
-    → AreJudged s asked vs ws b
-    → map (λ e. e.says) (effects_of s vs ws signings os)
-    ≡ merged vs (map (λ e. e.says) (completed (pendings_in s ws) signings os))
-says_all s [] [] [] signings os b many h = refl
-says_all s (a ∷ asked) (Some rule ∷ vs) ws signings os b many h =
-    ap (λ others. Rejected rule ∷ others) (says_all s asked vs ws signings os b many h.1)
-says_all s (a ∷ asked) (None ∷ vs) (w ∷ ws) (signing ∷ signings) (o ∷ os) b many h =
-    let r = waiting_view w in
-    ap (λ one. one ∷ map (λ e. e.says) (effects_of s vs ws signings os)) (besides (pending_in s w) signing r o).1.1
-    ∙ ap (λ others. (stamped (pending_in s w) signing [] o).says ∷ others)
-    (says_all s asked vs ws signings os (Reserved r ∷ b) many h.1)
-says_all s (a ∷ asked) (None ∷ vs) [] signings os b many h = absurd h
-says_all s (a ∷ asked) (None ∷ vs) (w ∷ ws) [] os b many h = absurd many
-says_all s (a ∷ asked) (None ∷ vs) (w ∷ ws) (signing ∷ signings) [] b many h = absurd many
-says_all s [] [] (w ∷ ws) signings os b many h = absurd h
-says_all s [] (v ∷ vs) ws signings os b many h = absurd h
-says_all s (a ∷ asked) [] ws signings os b many h = absurd h
+-- what was completed is of what waits
+abbrev pub AreOf : Setting → List JudgedStamp → List Completion → Type 0
+AreOf s js zs = pendings_of zs ≡ pendings_in s (waits_of js)
+
+-- the first of them, and those behind it
+first_of : (p q : PendingValue) (ps qs : List PendingValue) → p ∷ ps ≡ q ∷ qs → (p ≡ q) × (ps ≡ qs)
+first_of p q ps qs e = (cc, cc)
+
+of_behind : (s : Setting) (v : Verdict) (zs : List Completion) (ws : List Waiting)
+    → pendings_of zs ≡ pendings_in s (waiting_before v ws) → pendings_of (behind v zs) ≡ pendings_in s ws
+of_behind s (Settled rule o) zs ws of = of
+of_behind s (Waits w) [] ws of = absurd cc
+of_behind s (Waits w) (z ∷ zs) ws of =
+    (first_of z.pending (pending_in s w) (pendings_of zs) (pendings_in s ws) of).1
+
+seals_step : (s : Setting) (sealing : Call) (v : Verdict) (zs : List Completion) (ws : List Waiting)
+    (es : List Effect) → pendings_of zs ≡ pendings_in s (waiting_before v ws)
+    → all_sealed es ≡ seals_of sealing (behind v zs)
+    → all_sealed (effect_in s sealing v zs ∷ es) ≡ seals_of sealing zs
+seals_step s sealing (Settled rule o) zs ws es of rest = rest
+seals_step s sealing (Waits w) [] ws es of rest = absurd cc
+seals_step s sealing (Waits w) (z ∷ zs) ws es of rest =
+    let is = (first_of z.pending (pending_in s w) (pendings_of zs) (pendings_in s ws) of).0 in
+    ap (λ one. one ++ all_sealed es)
+    ((besides (pending_in s w) z.signing (waiting_view w) (finished sealing z)).1.0
+    ∙ ap (λ p. seals (stamped p z.signing [] (finished sealing z)).adds) (sym is))
+    ∙ ap (λ others. seals (completed sealing z).adds ++ others) rest
+
+pub seals_all : (s : Setting) (sealing : Call) (js : List JudgedStamp) (zs : List Completion) → AreOf s js zs
+    → all_sealed (effects_of s sealing js zs) ≡ seals_of sealing zs
+seals_all s sealing [] [] of = refl
+seals_all s sealing [] (z ∷ zs) of = absurd cc
+seals_all s sealing (j ∷ js) zs of =
+    seals_step s sealing j.verdict zs (waits_of js) (effects_of s sealing js (behind j.verdict zs)) of
+    (seals_all s sealing js (behind j.verdict zs) (of_behind s j.verdict zs (waits_of js) of))
+
+abbrev pub replies_of : List Completion → List Answer
+replies_of zs = map (λ z. (completed Fine z).says) zs
+
+says_step : (s : Setting) (v : Verdict) (zs : List Completion) (ws : List Waiting) (vs : List (Option Rule))
+    (answers : List Answer) → pendings_of zs ≡ pendings_in s (waiting_before v ws)
+    → answers ≡ merged vs (replies_of (behind v zs))
+    → (effect_in s Fine v zs).says ∷ answers ≡ merged (rule_of v ∷ vs) (replies_of zs)
+says_step s (Settled rule o) zs ws vs answers of rest = ap (λ others. Rejected rule ∷ others) rest
+says_step s (Waits w) [] ws vs answers of rest = absurd cc
+says_step s (Waits w) (z ∷ zs) ws vs answers of rest =
+    let is = (first_of z.pending (pending_in s w) (pendings_of zs) (pendings_in s ws) of).0 in
+    ap (λ one. one ∷ answers)
+    ((besides (pending_in s w) z.signing (waiting_view w) (finished Fine z)).1.1
+    ∙ ap (λ p. (stamped p z.signing [] (finished Fine z)).says) (sym is))
+    ∙ ap (λ others. (completed Fine z).says ∷ others) rest
+
+pub says_all : (s : Setting) (js : List JudgedStamp) (zs : List Completion) → AreOf s js zs
+    → map (λ e. e.says) (effects_of s Fine js zs) ≡ merged (rules_of js) (replies_of zs)
+says_all s [] zs of = refl
+says_all s (j ∷ js) zs of =
+    let zs' = behind j.verdict zs in
+    says_step s j.verdict zs (waits_of js) (rules_of js) (map (λ e. e.says) (effects_of s Fine js zs')) of
+    (says_all s js zs' (of_behind s j.verdict zs (waits_of js) of))
+
+-- where the commit of all tokens was refused
+finish_sealing : (sealing : Call) (zs : List Completion) → (finish_of sealing zs).sealing ≡ sealing
+finish_sealing sealing [] = refl
+finish_sealing sealing (z ∷ zs) = refl
+
+void_step : (s : Setting) (sealing : Call) → (sealing ≡ Fine → ⊥) → (v : Verdict) (zs : List Completion)
+    (vs : List (Option Rule)) (answers : List Answer) → answers ≡ merged vs []
+    → (effect_in s sealing v zs).says ∷ answers ≡ merged (rule_of v ∷ vs) []
+void_step s sealing h (Settled rule o) zs vs answers rest = ap (λ others. Rejected rule ∷ others) rest
+void_step s sealing h (Waits w) zs vs answers rest =
+    ap (λ one. one ∷ answers) (void_one (pending_in s w) (signing_of zs) (Reserved (waiting_view w) ∷ []) sealing
+    (finish_of sealing zs) (finish_sealing sealing zs) h).1
+    ∙ ap (λ others. Rejected System ∷ others) rest
+
+pub says_void : (s : Setting) (sealing : Call) → (sealing ≡ Fine → ⊥) → (js : List JudgedStamp)
+    (zs : List Completion) → map (λ e. e.says) (effects_of s sealing js zs) ≡ merged (rules_of js) []
+says_void s sealing h [] zs = refl
+says_void s sealing h (j ∷ js) zs =
+    let zs' = behind j.verdict zs in
+    void_step s sealing h j.verdict zs (rules_of js) (map (λ e. e.says) (effects_of s sealing js zs'))
+    (says_void s sealing h js zs')
 
 -- a stamp that waited moves the signer by its text
 moves_by : {S : Type 0} (signs : S → List ℕ → Result (List ℕ) SignerFault → S → Type 0) (p : PendingValue)
@@ -195,93 +248,82 @@ moves_one : {S : Type 0} (signs : S → List ℕ → Result (List ℕ) SignerFau
 moves_one signs p r (Ok signature) o x y h = moves_by signs p r signature (no_seal o) x y h
 moves_one signs p r (Err fault) o x y h = h
 
-pub move_in_turn : {S : Type 0} (signs : S → List ℕ → Result (List ℕ) SignerFault → S → Type 0) (s : Setting)
-    (asked : List Question) (vs : List (Option Rule)) (ws : List Waiting)
-    (signings : List (Result (List ℕ) SignerFault)) (os : List Outcome) (b : History) (x y : S)
-    → AreAsMany ws signings os → AreJudged s asked vs ws b → SignsEach signs x (texts_of (pendings_in s ws)) signings y
-    → MoveInTurn signs (effects_of s vs ws signings os) (outcomes_of vs signings os) x y
-move_in_turn signs s [] [] [] [] [] b x y many h moves = moves
-move_in_turn signs s (a ∷ asked) (Some rule ∷ vs) ws signings os b x y many h moves =
-    (x, (refl, move_in_turn signs s asked vs ws signings os b x y many h.1 moves))
-move_in_turn signs s (a ∷ asked) (None ∷ vs) (w ∷ ws) (signing ∷ signings) (o ∷ os) b x y many h moves = (
+move_step : {S : Type 0} (signs : S → List ℕ → Result (List ℕ) SignerFault → S → Type 0) (s : Setting)
+    (sealing : Call) (v : Verdict) (zs : List Completion) (ws : List Waiting) (es : List Effect) (os : List Outcome)
+    (x y : S) → SignsEach signs x (texts_of (pendings_in s (waiting_before v ws))) (signings_of zs) y
+    → ((z : S) → SignsEach signs z (texts_of (pendings_in s ws)) (signings_of (behind v zs)) y
+    → MoveInTurn signs es os z y)
+    → MoveInTurn signs (effect_in s sealing v zs ∷ es) (outcome_in sealing v zs ∷ os) x y
+move_step signs s sealing (Settled rule o) zs ws es os x y moves rest = (x, (refl, rest x moves))
+move_step signs s sealing (Waits w) [] ws es os x y moves rest = absurd moves
+move_step signs s sealing (Waits w) (z ∷ zs) ws es os x y moves rest = (
   moves.0,
   (
-    moves_one signs (pending_in s w) (waiting_view w) signing o x moves.0 moves.1.0,
-    move_in_turn signs s asked vs ws signings os (Reserved (waiting_view w) ∷ b) moves.0 y many h.1 moves.1.1,
+    moves_one signs (pending_in s w) (waiting_view w) z.signing (finished sealing z) x moves.0 moves.1.0,
+    rest moves.0 moves.1.1,
   ),
 )
-move_in_turn signs s (a ∷ asked) (None ∷ vs) [] signings os b x y many h moves = absurd h
-move_in_turn signs s (a ∷ asked) (None ∷ vs) (w ∷ ws) [] os b x y many h moves = absurd many
-move_in_turn signs s (a ∷ asked) (None ∷ vs) (w ∷ ws) (signing ∷ signings) [] b x y many h moves = absurd many
-move_in_turn signs s [] [] [] (signing ∷ signings) os b x y many h moves = absurd many
-move_in_turn signs s [] [] [] [] (o ∷ os) b x y many h moves = absurd many
-move_in_turn signs s [] [] (w ∷ ws) signings os b x y many h moves = absurd h
-move_in_turn signs s [] (v ∷ vs) ws signings os b x y many h moves = absurd h
-move_in_turn signs s (a ∷ asked) [] ws signings os b x y many h moves = absurd h
 
--- The counts: of a stamp that waited those of its completion, and of another none.
-pub faults_counted : (asked : List Question) (vs : List (Option Rule)) (ws : List Waiting)
-    (signings : List (Result (List ℕ) SignerFault)) (os : List Outcome) (n : ℕ) → AreAsMany ws signings os
-    → AreSplit asked vs ws → faults_along (outcomes_of vs signings os) n ≡ faults_sealing os n
-faults_counted [] [] [] [] [] n many h = refl
-faults_counted (a ∷ asked) (Some rule ∷ vs) ws signings os n many h = faults_counted asked vs ws signings os n many h
-faults_counted (a ∷ asked) (None ∷ vs) (w ∷ ws) (signing ∷ signings) (o ∷ os) n many h =
-    faults_counted asked vs ws signings os (counted o.sealing (counted o.wrapping n)) many h
-faults_counted (a ∷ asked) (None ∷ vs) [] signings os n many h = absurd h
-faults_counted asked (None ∷ vs) (w ∷ ws) [] os n many h = absurd many
-faults_counted asked (None ∷ vs) (w ∷ ws) (signing ∷ signings) [] n many h = absurd many
-faults_counted asked [] [] (signing ∷ signings) os n many h = absurd many
-faults_counted asked [] [] [] (o ∷ os) n many h = absurd many
-faults_counted [] [] (w ∷ ws) signings os n many h = absurd h
-faults_counted [] (v ∷ vs) ws signings os n many h = absurd h
-faults_counted (a ∷ asked) [] ws signings os n many h = absurd h
+pub move_in_turn : {S : Type 0} (signs : S → List ℕ → Result (List ℕ) SignerFault → S → Type 0) (s : Setting)
+    (sealing : Call) (js : List JudgedStamp) (zs : List Completion) (x y : S)
+    → SignsEach signs x (texts_of (pendings_in s (waits_of js))) (signings_of zs) y
+    → MoveInTurn signs (effects_of s sealing js zs) (outcomes_of sealing js zs) x y
+move_in_turn signs s sealing [] [] x y moves = moves
+move_in_turn signs s sealing [] (z ∷ zs) x y moves = absurd moves
+move_in_turn signs s sealing (j ∷ js) zs x y moves =
+    let zs' = behind j.verdict zs in
+    move_step signs s sealing j.verdict zs (waits_of js) (effects_of s sealing js zs') (outcomes_of sealing js zs') x y
+    moves (λ z more. move_in_turn signs s sealing js zs' z y more)
 
-pub signers_counted : (asked : List Question) (vs : List (Option Rule)) (ws : List Waiting)
-    (signings : List (Result (List ℕ) SignerFault)) (os : List Outcome) (n : ℕ) → AreAsMany ws signings os
-    → AreSplit asked vs ws
-    → count_after_each signings n ≡ count_after_each (map (λ o. o.signing) (outcomes_of vs signings os)) n
-signers_counted [] [] [] [] [] n many h = refl
-signers_counted (a ∷ asked) (Some rule ∷ vs) ws signings os n many h = signers_counted asked vs ws signings os n many h
-signers_counted (a ∷ asked) (None ∷ vs) (w ∷ ws) (signing ∷ signings) (o ∷ os) n many h =
-    signers_counted asked vs ws signings os (count_after signing n) many h
-signers_counted (a ∷ asked) (None ∷ vs) [] signings os n many h = absurd h
-signers_counted asked (None ∷ vs) (w ∷ ws) [] os n many h = absurd many
-signers_counted asked (None ∷ vs) (w ∷ ws) (signing ∷ signings) [] n many h = absurd many
-signers_counted asked [] [] (signing ∷ signings) os n many h = absurd many
-signers_counted asked [] [] [] (o ∷ os) n many h = absurd many
-signers_counted [] [] (w ∷ ws) signings os n many h = absurd h
-signers_counted [] (v ∷ vs) ws signings os n many h = absurd h
-signers_counted (a ∷ asked) [] ws signings os n many h = absurd h
+-- The counts: of a stamp that waited those of its signature, and of another none.
+signer_step : (s : Setting) (sealing : Call) (v : Verdict) (zs : List Completion) (ws : List Waiting)
+    (others : List (Result (List ℕ) SignerFault)) (n : ℕ) → pendings_of zs ≡ pendings_in s (waiting_before v ws)
+    → (met_by v).signing ≡ Ok []
+    → ((m : ℕ) → count_after_each (signings_of (behind v zs)) m ≡ count_after_each others m)
+    → count_after_each (signings_of zs) n ≡ count_after_each ((outcome_in sealing v zs).signing ∷ others) n
+signer_step s sealing (Settled rule o) zs ws others n of unsigned rest =
+    rest n ∙ ap (λ x. count_after_each (x ∷ others) n) (sym unsigned)
+signer_step s sealing (Waits w) [] ws others n of unsigned rest = absurd cc
+signer_step s sealing (Waits w) (z ∷ zs) ws others n of unsigned rest = rest (count_after z.signing n)
+
+pub signers_counted : (s : Setting) (sealing : Call) (js : List JudgedStamp) (zs : List Completion) (n : ℕ)
+    → AreOf s js zs → AllByRecursion (IsJudgedRightly s) js
+    → count_after_each (signings_of zs) n ≡ count_after_each (map (λ o. o.signing) (outcomes_of sealing js zs)) n
+signers_counted s sealing [] [] n of rightly = refl
+signers_counted s sealing [] (z ∷ zs) n of rightly = absurd cc
+signers_counted s sealing (j ∷ js) zs n of rightly =
+    let zs' = behind j.verdict zs in
+    signer_step s sealing j.verdict zs (waits_of js) (map (λ o. o.signing) (outcomes_of sealing js zs')) n of
+    rightly.0.unsigned
+    (λ m. signers_counted s sealing js zs' m (of_behind s j.verdict zs (waits_of js) of) rightly.1)
 
 -- the outcomes fit the stamps
-uncounted : (account : Option AccountValue) → Fine ≡ counting_for account Fine
-uncounted None = refl
-uncounted (Some account) = refl
+abbrev pub Grow : List Completion → Type 0
+Grow zs = AllByRecursion (λ z. IsUncounted z.wrapping) zs
 
-pub are_fit : (asked : List Question) (vs : List (Option Rule)) (ws : List Waiting)
-    (signings : List (Result (List ℕ) SignerFault)) (os : List Outcome) → AreAsMany ws signings os
-    → AreSplit asked vs ws → AllByRecursion (λ o. IsUncounted o.wrapping) os
-    → AreFit asked (outcomes_of vs signings os)
-are_fit [] [] [] [] [] many h grow = tt
-are_fit (a ∷ asked) (Some rule ∷ vs) ws signings os many h grow = (
-  (ap (λ call. record (all_fine (Ok [])) { counting = call }) (uncounted a.account), (tt, tt)),
-  are_fit asked vs ws signings os many h grow,
+grow_behind : (v : Verdict) (zs : List Completion) → Grow zs → Grow (behind v zs)
+grow_behind (Settled rule o) zs grow = grow
+grow_behind (Waits w) [] grow = tt
+grow_behind (Waits w) (z ∷ zs) grow = grow.1
+
+finish_grows : (sealing : Call) (zs : List Completion) → Grow zs → IsUncounted (finish_of sealing zs).wrapping
+finish_grows sealing [] grow = tt
+finish_grows sealing (z ∷ zs) grow = grow.0
+
+fits_one : (sealing : Call) (a : Question) (v : Verdict) (zs : List Completion) → IsFit (stamp_for a) (met_by v)
+    → Grow zs → IsFit (stamp_for a) (outcome_in sealing v zs)
+fits_one sealing a (Settled rule o) zs fits grow = fits
+fits_one sealing a (Waits w) zs fits grow =
+    fits_stamp a.account a (joined (all_fine (Ok [])) (signing_of zs) (finish_of sealing zs)) refl refl (λ none. refl)
+    (tt, finish_grows sealing zs grow)
+
+pub are_fit : (s : Setting) (sealing : Call) (js : List JudgedStamp) (zs : List Completion)
+    → AllByRecursion (IsJudgedRightly s) js → Grow zs → AreFit (questions_of js) (outcomes_of sealing js zs)
+are_fit s sealing [] zs rightly grow = tt
+are_fit s sealing (j ∷ js) zs rightly grow = (
+  fits_one sealing j.question j.verdict zs rightly.0.fits grow,
+  are_fit s sealing js (behind j.verdict zs) rightly.1 (grow_behind j.verdict zs grow),
 )
-are_fit (a ∷ asked) (None ∷ vs) (w ∷ ws) (signing ∷ signings) (o ∷ os) many h grow = (
-  (
-    ap (λ call. record (joined (all_fine (Ok [])) signing o) { counting = call }) (uncounted a.account),
-    (tt, grow.0),
-  ),
-  are_fit asked vs ws signings os many h grow.1,
-)
-are_fit (a ∷ asked) (None ∷ vs) [] signings os many h grow = absurd h
-are_fit asked (None ∷ vs) (w ∷ ws) [] os many h grow = absurd many
-are_fit asked (None ∷ vs) (w ∷ ws) (signing ∷ signings) [] many h grow = absurd many
-are_fit asked [] [] (signing ∷ signings) os many h grow = absurd many
-are_fit asked [] [] [] (o ∷ os) many h grow = absurd many
-are_fit [] [] (w ∷ ws) signings os many h grow = absurd h
-are_fit [] (v ∷ vs) ws signings os many h grow = absurd h
-are_fit (a ∷ asked) [] ws signings os many h grow = absurd h
 
 -- what waits stays so while others are reserved
 stays_waiting : (p : PendingValue) (r : ReservationValue) (b : History) → FitsReserved r b → IsWaiting p b
@@ -293,33 +335,33 @@ stays_waiting p r b fits h = record {
   open_yet = h.open_yet;
 }
 
-stays_among : (s : Setting) (asked : List Question) (vs : List (Option Rule)) (ws : List Waiting) (b : History)
-    (p : PendingValue) → AreJudged s asked vs ws b → IsWaiting p b → IsWaiting p (with_waiting ws b)
-stays_among s [] [] [] b p h waits = waits
-stays_among s (a ∷ asked) (Some rule ∷ vs) ws b p h waits = stays_among s asked vs ws b p h.1 waits
-stays_among s (a ∷ asked) (None ∷ vs) (w ∷ ws) b p h waits =
-    stays_among s asked vs ws (Reserved (waiting_view w) ∷ b) p h.1
-    (stays_waiting p (waiting_view w) b (waiting_fits s a b w h.0) waits)
-stays_among s (a ∷ asked) (None ∷ vs) [] b p h waits = absurd h
-stays_among s [] [] (w ∷ ws) b p h waits = absurd h
-stays_among s [] (v ∷ vs) ws b p h waits = absurd h
-stays_among s (a ∷ asked) [] ws b p h waits = absurd h
+stays_one : (s : Setting) (a : Question) (v : Verdict) (b : History) (p : PendingValue) → IsJudgedAs s a v b
+    → IsWaiting p b → IsWaiting p (reserved_for v b)
+stays_one s a (Settled rule o) b p h waits = waits
+stays_one s a (Waits w) b p h waits = stays_waiting p (waiting_view w) b (waiting_fits s a b w h) waits
+
+stays_among : (s : Setting) (js : List JudgedStamp) (b : History) (p : PendingValue) → AreJudged s js b → IsWaiting p b
+    → IsWaiting p (with_waiting (waits_of js) b)
+stays_among s [] b p h waits = waits
+stays_among s (j ∷ js) b p h waits =
+    subst (IsWaiting p) (sym (with_before j.verdict (waits_of js) b))
+    (stays_among s js (reserved_for j.verdict b) p h.1 (stays_one s j.question j.verdict b p h.0 waits))
 
 -- serial numbers rise
-rise_among : (s : Setting) (asked : List Question) (vs : List (Option Rule)) (ws : List Waiting) (b : History)
-    (n : ℕ) → AreJudged s asked vs ws b → n ≤ greatest_serial b
-    → AllByRecursion (λ q. n < q.serial) (pendings_in s ws)
-rise_among s [] [] [] b n h most = tt
-rise_among s (a ∷ asked) (Some rule ∷ vs) ws b n h most = rise_among s asked vs ws b n h.1 most
-rise_among s (a ∷ asked) (None ∷ vs) (w ∷ ws) b n h most =
-    let above = (waiting_fits s a b w h.0).rises in (
-      omega arith,
-      rise_among s asked vs ws (Reserved (waiting_view w) ∷ b) n h.1 (omega arith),
-    )
-rise_among s (a ∷ asked) (None ∷ vs) [] b n h most = absurd h
-rise_among s [] [] (w ∷ ws) b n h most = absurd h
-rise_among s [] (v ∷ vs) ws b n h most = absurd h
-rise_among s (a ∷ asked) [] ws b n h most = absurd h
+rise_step : (s : Setting) (a : Question) (v : Verdict) (ws : List Waiting) (b : History) (n : ℕ) → IsJudgedAs s a v b
+    → n ≤ greatest_serial b
+    → (n ≤ greatest_serial (reserved_for v b) → AllByRecursion (λ q. n < q.serial) (pendings_in s ws))
+    → AllByRecursion (λ q. n < q.serial) (pendings_in s (waiting_before v ws))
+rise_step s a (Settled rule o) ws b n h most rest = rest most
+rise_step s a (Waits w) ws b n h most rest =
+    let above = (waiting_fits s a b w h).rises in (omega arith, rest (omega arith))
+
+rise_among : (s : Setting) (js : List JudgedStamp) (b : History) (n : ℕ) → AreJudged s js b → n ≤ greatest_serial b
+    → AllByRecursion (λ q. n < q.serial) (pendings_in s (waits_of js))
+rise_among s [] b n h most = tt
+rise_among s (j ∷ js) b n h most =
+    rise_step s j.question j.verdict (waits_of js) b n h.0 most
+    (λ more. rise_among s js (reserved_for j.verdict b) n h.1 more)
 
 waits_once_reserved : (s : Setting) (w : Waiting) (b : History) → FitsReserved (waiting_view w) b → IsSound b
     → IsWaiting (pending_in s w) (Reserved (waiting_view w) ∷ b)
@@ -332,32 +374,24 @@ waits_once_reserved s w b fits sound =
       open_yet = unsealed_above b sound r.serial fits.rises;
     }
 
-pub all_wait : (s : Setting) (asked : List Question) (vs : List (Option Rule)) (ws : List Waiting) (b : History)
-    → IsSound b → AreJudged s asked vs ws b → AreWaiting (pendings_in s ws) (with_waiting ws b)
-all_wait s [] [] [] b sound h = tt
-all_wait s (a ∷ asked) (Some rule ∷ vs) ws b sound h = all_wait s asked vs ws b sound h.1
-all_wait s (a ∷ asked) (None ∷ vs) (w ∷ ws) b sound h =
-    let fits = waiting_fits s a b w h.0 in
+wait_step : (s : Setting) (a : Question) (v : Verdict) (js : List JudgedStamp) (b : History) → IsSound b
+    → IsJudgedAs s a v b → AreJudged s js (reserved_for v b)
+    → (IsSound (reserved_for v b)
+    → AreWaiting (pendings_in s (waits_of js)) (with_waiting (waits_of js) (reserved_for v b)))
+    → AreWaiting (pendings_in s (waiting_before v (waits_of js))) (with_waiting (waiting_before v (waits_of js)) b)
+wait_step s a (Settled rule o) js b sound h others rest = rest sound
+wait_step s a (Waits w) js b sound h others rest =
+    let fits = waiting_fits s a b w h in
     let r = waiting_view w in
     let most : w.prepared.serial ≤ greatest_serial (Reserved r ∷ b) = omega arith in (
-      stays_among s asked vs ws (Reserved r ∷ b) (pending_in s w) h.1 (waits_once_reserved s w b fits sound),
-      rise_among s asked vs ws (Reserved r ∷ b) w.prepared.serial h.1 most,
-      all_wait s asked vs ws (Reserved r ∷ b) (fits, sound) h.1,
+      stays_among s js (Reserved r ∷ b) (pending_in s w) others (waits_once_reserved s w b fits sound),
+      rise_among s js (Reserved r ∷ b) w.prepared.serial others most,
+      rest (fits, sound),
     )
-all_wait s (a ∷ asked) (None ∷ vs) [] b sound h = absurd h
-all_wait s [] [] (w ∷ ws) b sound h = absurd h
-all_wait s [] (v ∷ vs) ws b sound h = absurd h
-all_wait s (a ∷ asked) [] ws b sound h = absurd h
 
--- as many were signed, and met something, as wait
-pub many_of : {S : Type 0} (signs : S → List ℕ → Result (List ℕ) SignerFault → S → Type 0) (s : Setting)
-    (ws : List Waiting) (signings : List (Result (List ℕ) SignerFault)) (os : List Outcome) (x y : S)
-    → SignsEach signs x (texts_of (pendings_in s ws)) signings y → length os ≡ length (pendings_in s ws)
-    → AreAsMany ws signings os
-many_of signs s [] [] [] x y h e = tt
-many_of signs s (w ∷ ws) (signing ∷ signings) (o ∷ os) x y h e =
-    many_of signs s ws signings os h.0 y h.1.1 (omega arith)
-many_of signs s [] (signing ∷ signings) os x y h e = absurd h
-many_of signs s [] [] (o ∷ os) x y h e = absurd (omega arith)
-many_of signs s (w ∷ ws) [] os x y h e = absurd h
-many_of signs s (w ∷ ws) (signing ∷ signings) [] x y h e = absurd (omega arith)
+pub all_wait : (s : Setting) (js : List JudgedStamp) (b : History) → IsSound b → AreJudged s js b
+    → AreWaiting (pendings_in s (waits_of js)) (with_waiting (waits_of js) b)
+all_wait s [] b sound h = tt
+all_wait s (j ∷ js) b sound h =
+    wait_step s j.question j.verdict js b sound h.0 h.1
+    (λ more. all_wait s js (reserved_for j.verdict b) more h.1)

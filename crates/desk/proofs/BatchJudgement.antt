@@ -1,35 +1,40 @@
 -- Stamps of a batch are judged one after the other.
-use Rattle.std.proofs.Common.{◌≡◌, ◌⊎◌, ℕ, ◌+◌, ◌<◌, List, [], ◌∷◌, ◌++◌, length, map, Option, Some, None, Ok, Err}
-use Rattle.std.proofs.Common.{refl, sym, ap, ◌∙◌, subst, inl, inr, take, get_or}
+use Rattle.std.proofs.Common.{◌≡◌, ◌<◌, nat_le, ℕ, ◌+◌, List, [], ◌∷◌, ◌++◌, length, Option, Some, None, Ok}
+use Rattle.std.proofs.Common.{Bool, true, false, if◌then◌else◌, refl, sym, ap, ◌∙◌, subst, append-nil, take, get_or}
 use Rattle.std.specs.List.{AllByRecursion}
 use Rattle.std.proofs.lemmas.List.{take_more, map-append}
-use Rattle.policy.specs.Record.{PolicyValue}
+use Rattle.policy.specs.Record.{AccountValue}
 use Rattle.tsp.specs.Rules.{IsFirstFailing}
 use Rattle.tsp.specs.declared.rule.Rule.{Rule}
+use Rattle.tsp.specs.declared.rule.Rule.TheVariants.{System}
 use Rattle.der.specs.ObjectIdentifier.{oid_content}
 use Rattle.cms.specs.SignedData.{attribute_text}
-use Rattle.book.specs.declared.fault.StoreFault.{StoreFault}
 use Rattle.book.specs.declared.standing.Standing.{Ghosts}
-use Rattle.book.specs.Entries.{Appends}
-use Rattle.book.specs.Fault.{IsOfStorage}
-use Rattle.book.specs.History.{Reserved, History, greatest_serial}
+use Rattle.book.specs.History.{History, greatest_serial}
 use Rattle.book.specs.Sound.{FitsReserved, IsSound, greatest_number}
 use Rattle.book.specs.Stands.{Stands, OnlyLooks}
-use Rattle.desk.specs.Batches.{Question}
-use Rattle.desk.specs.Calls.{IsPrepared}
-use Rattle.desk.specs.Command.{Setting}
-use Rattle.desk.specs.Effects.{next_reservation, name_of}
-use Rattle.desk.specs.Findings.{StampPlan, HoldsUnasked, Allowed, Finds}
-use Rattle.desk.specs.Outcome.{all_fine}
-use Rattle.desk.specs.Together.{question_view, questions_view, Awaits, FailsAt, AreJudged, AreSplit, IsFailing}
-use Rattle.desk.specs.Together.{AreJudgedUnasked, IsReservedInDoubt}
+use Rattle.desk.specs.Batches.{Question, stamp_for, faults_along}
+use Rattle.desk.specs.Calls.{IsPrepared, IsOfLooks, IsSomebodys, refused, cause_with}
+use Rattle.desk.specs.Command.{Setting, Rejected}
+use Rattle.desk.specs.Effects.{next_reservation, name_of, no_number, only, stamping_of, stamp_effect}
+use Rattle.desk.specs.Findings.{StampPlan, HoldsUnasked, Fails, Unanswered, Allowed, Finds}
+use Rattle.desk.specs.Fit.{IsFit, AreGrowths, counting_for}
+use Rattle.desk.specs.MachineStep.{HasEffect}
+use Rattle.desk.specs.Outcome.{Call, Fine, OutOfMemory, Failed, Outcome, Cause, OfMemory, OfStore, cause_of, first_cause}
+use Rattle.desk.specs.Outcome.{all_fine, faults_after}
+use Rattle.desk.specs.Together.{question_view, questions_view, Awaits, Verdict, Settled, Waits, JudgedStamp, rule_of}
+use Rattle.desk.specs.Together.{looks_of, all_looks, waiting_before, waits_of, reserved_for, IsJudgedAs}
+use Rattle.desk.specs.Together.{AreJudged, IsJudgedRightly, JudgesEach, IsTold, JudgesOne, AwaitsOne}
+use Rattle.desk.specs.Together.{IsKept}
 use Rattle.desk.specs.WaitingStamps.{waiting_view, with_waiting, HasText}
 use Rattle.desk.specs.declared.batch.Asked.{Asked}
+use Rattle.desk.specs.declared.batch_start.Judged.{Judged}
 use Rattle.desk.specs.declared.batch_start.Judged.TheVariants as judged
+use Rattle.desk.specs.declared.refusal.StampRefusal.{StampRefusal}
 use Rattle.desk.specs.declared.refusal.StampRefusal.TheVariants as refusal
 use Rattle.desk.specs.declared.waiting_stamp.Waiting.{Waiting}
-use Rattle.desk.proofs.Batches.{fit_each, next_fits}
-use Rattle.desk.proofs.Fits.{is_refused}
+use Rattle.desk.proofs.Batches.{next_fits}
+use Rattle.desk.proofs.Judgement.{looks_then}
 use Rattle.desk.proofs.Reserves.{next_is, waits_for}
 
 -- what is prepared waits
@@ -59,183 +64,291 @@ pub waiting_fits : (s : Setting) (a : Question) (b : History) (w : Waiting) → 
 waiting_fits s a b w h = subst (λ r. FitsReserved r b) (sym h.reserves)
     (next_fits s a.account a.reading a.octets (name_of a.account) b h.plan h.found.0 h.left)
 
-pub judged_sound : (s : Setting) (asked : List Question) (vs : List (Option Rule)) (ws : List Waiting) (b : History)
-    → AreJudged s asked vs ws b → IsSound b → IsSound (with_waiting ws b)
-judged_sound s [] [] [] b h sound = sound
-judged_sound s (a ∷ asked) (Some rule ∷ vs) ws b h sound = judged_sound s asked vs ws b h.1 sound
-judged_sound s (a ∷ asked) (None ∷ vs) (w ∷ ws) b h sound =
-    judged_sound s asked vs ws (Reserved (waiting_view w) ∷ b) h.1 (waiting_fits s a b w h.0, sound)
-judged_sound s (a ∷ asked) (None ∷ vs) [] b h sound = absurd h
-judged_sound s [] [] (w ∷ ws) b h sound = absurd h
-judged_sound s [] (v ∷ vs) ws b h sound = absurd h
-judged_sound s (a ∷ asked) [] ws b h sound = absurd h
+-- what waits for one more is reserved behind what was
+pub with_before : (v : Verdict) (ws : List Waiting) (b : History)
+    → with_waiting (waiting_before v ws) b ≡ with_waiting ws (reserved_for v b)
+with_before (Settled rule o) ws b = refl
+with_before (Waits w) ws b = refl
 
-fails_next : (s : Setting) (asked : List Question) (vs : List (Option Rule)) (ws : List Waiting) (b : History)
-    (a : Question) (rule : Rule) → AreJudged s asked vs ws b → FailsAt s a (with_waiting ws b) rule
-    → AreJudged s (asked ++ (a ∷ [])) (vs ++ (Some rule ∷ [])) ws b
-fails_next s [] [] [] b a rule h fails = (fails, tt)
-fails_next s (q ∷ asked) (Some r ∷ vs) ws b a rule h fails = (h.0, fails_next s asked vs ws b a rule h.1 fails)
-fails_next s (q ∷ asked) (None ∷ vs) (w ∷ ws) b a rule h fails =
-    (h.0, fails_next s asked vs ws (Reserved (waiting_view w) ∷ b) a rule h.1 fails)
-fails_next s (q ∷ asked) (None ∷ vs) [] b a rule h fails = absurd h
-fails_next s [] [] (w ∷ ws) b a rule h fails = absurd h
-fails_next s [] (v ∷ vs) ws b a rule h fails = absurd h
-fails_next s (q ∷ asked) [] ws b a rule h fails = absurd h
+verdict_sound : (s : Setting) (a : Question) (v : Verdict) (b : History) → IsJudgedAs s a v b → IsSound b
+    → IsSound (reserved_for v b)
+verdict_sound s a (Settled rule o) b h sound = sound
+verdict_sound s a (Waits w) b h sound = (waiting_fits s a b w h, sound)
 
-waits_next : (s : Setting) (asked : List Question) (vs : List (Option Rule)) (ws : List Waiting) (b : History)
-    (a : Question) (w : Waiting) → AreJudged s asked vs ws b → Awaits s a (with_waiting ws b) w
-    → AreJudged s (asked ++ (a ∷ [])) (vs ++ (None ∷ [])) (ws ++ (w ∷ [])) b
-waits_next s [] [] [] b a w h waits = (waits, tt)
-waits_next s (q ∷ asked) (Some r ∷ vs) ws b a w h waits = (h.0, waits_next s asked vs ws b a w h.1 waits)
-waits_next s (q ∷ asked) (None ∷ vs) (x ∷ ws) b a w h waits =
-    (h.0, waits_next s asked vs ws (Reserved (waiting_view x) ∷ b) a w h.1 waits)
-waits_next s (q ∷ asked) (None ∷ vs) [] b a w h waits = absurd h
-waits_next s [] [] (x ∷ ws) b a w h waits = absurd h
-waits_next s [] (v ∷ vs) ws b a w h waits = absurd h
-waits_next s (q ∷ asked) [] ws b a w h waits = absurd h
+pub judged_sound : (s : Setting) (js : List JudgedStamp) (b : History) → AreJudged s js b → IsSound b
+    → IsSound (with_waiting (waits_of js) b)
+judged_sound s [] b h sound = sound
+judged_sound s (j ∷ js) b h sound =
+    subst IsSound (sym (with_before j.verdict (waits_of js) b))
+    (judged_sound s js (reserved_for j.verdict b) h.1 (verdict_sound s j.question j.verdict b h.0 sound))
 
--- the questions up to an index, and the next
-pub asked_more : (asked : List Asked) (i : ℕ) (item : Asked) → i < length asked → item ≡ get_or asked i item
-    → questions_view (take (i + 1) asked) ≡ questions_view (take i asked) ++ (question_view item ∷ [])
-asked_more asked i item within is =
-    ap questions_view (take_more asked i item within)
-    ∙ (map-append question_view (take i asked) (get_or asked i item ∷ [])
-    ∙ ap (λ a. questions_view (take i asked) ++ (question_view a ∷ [])) (sym is))
+before_both : (v : Verdict) (ws us : List Waiting) → waiting_before v ws ++ us ≡ waiting_before v (ws ++ us)
+before_both (Settled rule o) ws us = refl
+before_both (Waits w) ws us = refl
 
-pub judged_failing : (s : Setting) (asked : List Asked) (i : ℕ) (item : Asked) (vs now : List (Option Rule))
-    (ws : List Waiting) (b : History) (rule : Rule) → i < length asked → item ≡ get_or asked i item
-    → now ≡ vs ++ (Some rule ∷ []) → AreJudged s (questions_view (take i asked)) vs ws b
-    → FailsAt s (question_view item) (with_waiting ws b) rule
-    → AreJudged s (questions_view (take (i + 1) asked)) now ws b
-judged_failing s asked i item vs now ws b rule within is more h fails =
-    subst (λ qs. AreJudged s qs now ws b) (sym (asked_more asked i item within is))
-    (subst (λ v. AreJudged s (questions_view (take i asked) ++ (question_view item ∷ [])) v ws b) (sym more)
-    (fails_next s (questions_view (take i asked)) vs ws b (question_view item) rule h fails))
+waits_both : (js ks : List JudgedStamp) → waits_of (js ++ ks) ≡ waits_of js ++ waits_of ks
+waits_both [] ks = refl
+waits_both (j ∷ js) ks =
+    ap (waiting_before j.verdict) (waits_both js ks) ∙ sym (before_both j.verdict (waits_of js) (waits_of ks))
 
-pub judged_waiting : (s : Setting) (asked : List Asked) (i : ℕ) (item : Asked) (vs now : List (Option Rule))
-    (ws then : List Waiting) (b : History) (w : Waiting) → i < length asked → item ≡ get_or asked i item
-    → now ≡ vs ++ (None ∷ []) → then ≡ ws ++ (w ∷ []) → AreJudged s (questions_view (take i asked)) vs ws b
-    → Awaits s (question_view item) (with_waiting ws b) w
-    → AreJudged s (questions_view (take (i + 1) asked)) now then b
-judged_waiting s asked i item vs now ws then b w within is more longer h waits =
-    subst (λ qs. AreJudged s qs now then b) (sym (asked_more asked i item within is))
-    (subst (λ v. AreJudged s (questions_view (take i asked) ++ (question_view item ∷ [])) v then b) (sym more)
-    (subst (λ x. AreJudged s (questions_view (take i asked) ++ (question_view item ∷ [])) (vs ++ (None ∷ [])) x b)
-    (sym longer)
-    (waits_next s (questions_view (take i asked)) vs ws b (question_view item) w h waits)))
+judged_more : (s : Setting) (js : List JudgedStamp) (k : JudgedStamp) (b : History) → AreJudged s js b
+    → IsJudgedAs s k.question k.verdict (with_waiting (waits_of js) b) → AreJudged s (js ++ (k ∷ [])) b
+judged_more s [] k b h one = (one, tt)
+judged_more s (j ∷ js) k b h one = (
+  h.0,
+  judged_more s js k (reserved_for j.verdict b) h.1
+      (subst (IsJudgedAs s k.question k.verdict) (with_before j.verdict (waits_of js) b) one),
+)
+
+along_more : (os : List Outcome) (o : Outcome) (n : ℕ)
+    → faults_along (os ++ (o ∷ [])) n ≡ faults_after o (faults_along os n)
+along_more [] o n = refl
+along_more (p ∷ os) o n = along_more os o (faults_after p n)
 
 -- a fact of each goes on by one more
-all_next : {X : Type 0} (P : X → Type 0) (xs : List X) (x : X) → AllByRecursion P xs → P x
+pub all_next : {X : Type 0} (P : X → Type 0) (xs : List X) (x : X) → AllByRecursion P xs → P x
     → AllByRecursion P (xs ++ (x ∷ []))
 all_next P [] x all one = (one, tt)
 all_next P (y ∷ xs) x all one = (all.0, all_next P xs x all.1 one)
 
-pub all_more : {X : Type 0} (P : X → Type 0) (xs now : List X) (x : X) → now ≡ xs ++ (x ∷ [])
-    → AllByRecursion P xs → P x → AllByRecursion P now
-all_more P xs now x more all one = subst (AllByRecursion P) (sym more) (all_next P xs x all one)
+-- what is kept of one more
+kept_more : (told : Judged) (v : Verdict) (rules rules' : List (Option Rule)) (ws ws' : List Waiting) → IsTold told v
+    → IsKept told rules rules' ws ws'
+    → (rules' ≡ rules ++ (rule_of v ∷ [])) × (ws' ≡ ws ++ waiting_before v [])
+kept_more (judged.Fails rule) v rules rules' ws ws' told kept = (
+  kept.0 ∙ ap (λ x. rules ++ (rule_of x ∷ [])) (sym told.1),
+  kept.1 ∙ (sym (append-nil ws) ∙ ap (λ x. ws ++ waiting_before x []) (sym told.1)),
+)
+kept_more (judged.Waits w) v rules rules' ws ws' told kept = (
+  kept.0 ∙ ap (λ x. rules ++ (rule_of x ∷ [])) (sym told),
+  kept.1 ∙ ap (λ x. ws ++ waiting_before x []) (sym told),
+)
 
-fails_split : (asked : List Question) (vs : List (Option Rule)) (ws : List Waiting) (a : Question) (rule : Rule)
-    → AreSplit asked vs ws → AreSplit (asked ++ (a ∷ [])) (vs ++ (Some rule ∷ [])) ws
-fails_split [] [] [] a rule h = tt
-fails_split (q ∷ asked) (Some r ∷ vs) ws a rule h = fails_split asked vs ws a rule h
-fails_split (q ∷ asked) (None ∷ vs) (w ∷ ws) a rule h = fails_split asked vs ws a rule h
-fails_split (q ∷ asked) (None ∷ vs) [] a rule h = absurd h
-fails_split [] [] (w ∷ ws) a rule h = absurd h
-fails_split [] (v ∷ vs) ws a rule h = absurd h
-fails_split (q ∷ asked) [] ws a rule h = absurd h
+-- none is judged
+pub judges_none : {B : Type 0} (g : Ghosts B) (s : Setting) (old : B) → JudgesEach g s [] [] [] old old
+judges_none g s old = record {
+  stamps = [];
+  questions = refl;
+  rules_are = refl;
+  waits = refl;
+  rightly = tt;
+  looks = record { honest = λ h. h; stands = λ b st. st; leaves = λ h left r. r };
+  counted = refl;
+  judged = λ honest b stands. tt;
+}
 
-waits_split : (asked : List Question) (vs : List (Option Rule)) (ws : List Waiting) (a : Question) (w : Waiting)
-    → AreSplit asked vs ws → AreSplit (asked ++ (a ∷ [])) (vs ++ (None ∷ [])) (ws ++ (w ∷ []))
-waits_split [] [] [] a w h = tt
-waits_split (q ∷ asked) (Some r ∷ vs) ws a w h = waits_split asked vs ws a w h
-waits_split (q ∷ asked) (None ∷ vs) (x ∷ ws) a w h = waits_split asked vs ws a w h
-waits_split (q ∷ asked) (None ∷ vs) [] a w h = absurd h
-waits_split [] [] (x ∷ ws) a w h = absurd h
-waits_split [] (v ∷ vs) ws a w h = absurd h
-waits_split (q ∷ asked) [] ws a w h = absurd h
+-- one more is judged
+pub judges_next : {B : Type 0} (g : Ghosts B) (s : Setting) (asked : List Question) (a : Question)
+    (rules rules' : List (Option Rule)) (ws ws' : List Waiting) (told : Judged) (old mid new : B)
+    → JudgesEach g s asked rules ws old mid → JudgesOne g s a ws told mid new → IsKept told rules rules' ws ws'
+    → JudgesEach g s (asked ++ (a ∷ [])) rules' ws' old new
+judges_next g s asked a rules rules' ws ws' told old mid new all one kept =
+    let js = all.stamps in
+    let j : JudgedStamp = record { question = a; verdict = one.verdict } in
+    let more = kept_more told one.verdict rules rules' ws ws' one.tells kept in
+    let n = g.fault_count old in
+    record {
+      stamps = js ++ (j ∷ []);
+      questions = map-append (λ k. k.question) js (j ∷ []) ∙ ap (λ qs. qs ++ (a ∷ [])) all.questions;
+      rules_are = map-append (λ k. rule_of k.verdict) js (j ∷ [])
+          ∙ (ap (λ rs. rs ++ (rule_of one.verdict ∷ [])) all.rules_are ∙ sym more.0);
+      waits = waits_both js (j ∷ []) ∙ (ap (λ xs. xs ++ waiting_before one.verdict []) all.waits ∙ sym more.1);
+      rightly = all_next (IsJudgedRightly s) js j all.rightly one.rightly;
+      looks = looks_then g old mid new all.looks one.looks;
+      counted = one.counted
+          ∙ (ap (faults_after (looks_of one.verdict)) all.counted
+          ∙ (sym (along_more (all_looks js) (looks_of one.verdict) n)
+          ∙ ap (λ os. faults_along os n) (sym (map-append (λ k. looks_of k.verdict) js (j ∷ [])))));
+      judged = λ honest b stands.
+          let before = all.judged (one.looks.honest honest) b stands in
+          let sound = judged_sound s js b before stands.sound in
+          judged_more s js j b before
+          (subst (λ xs. IsJudgedAs s a one.verdict (with_waiting xs b)) (sym all.waits)
+          (one.judged honest b (all.looks.stands b stands)
+          (subst (λ xs. IsSound (with_waiting xs b)) all.waits sound)));
+    }
 
-pub split_failing : (asked : List Asked) (i : ℕ) (item : Asked) (vs now : List (Option Rule)) (ws : List Waiting)
-    (rule : Rule) → i < length asked → item ≡ get_or asked i item → now ≡ vs ++ (Some rule ∷ [])
-    → AreSplit (questions_view (take i asked)) vs ws → AreSplit (questions_view (take (i + 1) asked)) now ws
-split_failing asked i item vs now ws rule within is more h =
-    subst (λ qs. AreSplit qs now ws) (sym (asked_more asked i item within is))
-    (subst (λ v. AreSplit (questions_view (take i asked) ++ (question_view item ∷ [])) v ws) (sym more)
-    (fails_split (questions_view (take i asked)) vs ws (question_view item) rule h))
+-- the questions up to an index, and the next
+pub asked_more : (asked : List Asked) (i : ℕ) (item : Asked) → i < length asked → item ≡ get_or asked i item
+    → questions_view (take i asked) ++ (question_view item ∷ []) ≡ questions_view (take (i + 1) asked)
+asked_more asked i item within is =
+    ap (λ a. questions_view (take i asked) ++ (question_view a ∷ [])) is
+    ∙ (sym (map-append question_view (take i asked) (get_or asked i item ∷ []))
+    ∙ sym (ap questions_view (take_more asked i item within)))
 
-pub split_waiting : (asked : List Asked) (i : ℕ) (item : Asked) (vs now : List (Option Rule)) (ws then : List Waiting)
-    (w : Waiting) → i < length asked → item ≡ get_or asked i item → now ≡ vs ++ (None ∷ [])
-    → then ≡ ws ++ (w ∷ []) → AreSplit (questions_view (take i asked)) vs ws
-    → AreSplit (questions_view (take (i + 1) asked)) now then
-split_waiting asked i item vs now ws then w within is more longer h =
-    subst (λ qs. AreSplit qs now then) (sym (asked_more asked i item within is))
-    (subst (λ v. AreSplit (questions_view (take i asked) ++ (question_view item ∷ [])) v then) (sym more)
-    (subst (λ x. AreSplit (questions_view (take i asked) ++ (question_view item ∷ [])) (vs ++ (None ∷ [])) x)
-    (sym longer) (waits_split (questions_view (take i asked)) vs ws (question_view item) w h)))
+-- the calls that a stamp makes
+pub fits_stamp : (account : Option AccountValue) (a : Question) (o : Outcome) → a.account ≡ account → o.searching ≡ Fine
+    → (account ≡ None → o.counting ≡ Fine) → AreGrowths o → IsFit (stamp_for a) o
+fits_stamp None a o is searching counting grow = (
+  ap (λ x. record o { searching = x; counting = o.counting }) searching
+      ∙ (ap (λ x. record o { searching = Fine; counting = x }) (counting refl)
+      ∙ ap (λ x. record o { searching = Fine; counting = counting_for x o.counting }) (sym is)),
+  grow,
+)
+fits_stamp (Some account) a o is searching counting grow = (
+  ap (λ x. record o { searching = x }) searching
+      ∙ ap (λ x. record o { searching = Fine; counting = counting_for x o.counting }) (sym is),
+  grow,
+)
 
--- two variables keep a fact where they are as they were made
-pub both : {V W : Type 0} (P : V → W → Type 0) (v v' : V) (w w' : W) → v' ≡ v → w' ≡ w → P v w → P v' w'
-both P v v' w w' e f h = subst (λ x. P x w') (sym e) (subst (λ y. P v y) (sym f) h)
+-- where nothing could be reserved it is rejected by rule 12
+pub unreserved : (s : Setting) (a : Question) (plan : StampPlan) (o : Outcome) (b : History) (cause : Cause)
+    → Finds s.file a.account a.reading a.octets (all_fine (Ok [])) b (Allowed plan) → o.looking ≡ Fine
+    → o.counting ≡ Fine → no_number o b ≡ Some cause → HasEffect s (stamp_for a) o b (only (Rejected System))
+unreserved s a plan o b cause found looking counting why = (
+  Allowed plan,
+  (found.0, looking, counting),
+  ap (λ x. stamp_effect s (stamping_of s (name_of a.account) plan a.octets o b x)) (sym why),
+)
 
--- by the rules 1 to 9
-unasked_next : (file : PolicyValue) (asked : List Question) (vs : List (Option Rule)) (a : Question) (v : Option Rule)
-    → AreJudgedUnasked file asked vs
-    → ((rule : Rule) → IsFirstFailing (HoldsUnasked file a.account a.octets) rule → v ≡ Some rule)
-    → AreJudgedUnasked file (asked ++ (a ∷ [])) (vs ++ (v ∷ []))
-unasked_next file [] [] a v h one = (one, tt)
-unasked_next file (q ∷ asked) (r ∷ vs) a v h one = (h.0, unasked_next file asked vs a v h.1 one)
-unasked_next file [] (r ∷ vs) a v h one = absurd h
-unasked_next file (q ∷ asked) [] a v h one = absurd h
+-- a cause is there where the commit was refused
+refused_cause : (full : Bool) (growing adding : Call) → (adding ≡ Fine → ⊥)
+    → (cause : Cause) × (first_cause ((if full then Some OfStore else None) ∷ cause_of growing ∷ cause_of adding ∷ [])
+    ≡ Some cause)
+refused_cause true growing adding h = (OfStore, refl)
+refused_cause false OutOfMemory adding h = (OfMemory, refl)
+refused_cause false Failed adding h = (OfStore, refl)
+refused_cause false Fine OutOfMemory h = (OfMemory, refl)
+refused_cause false Fine Failed h = (OfStore, refl)
+refused_cause false Fine Fine h = absurd (h refl)
 
-unasked_more : (file : PolicyValue) (asked : List Asked) (i : ℕ) (item : Asked) (vs now : List (Option Rule))
-    (v : Option Rule) → i < length asked → item ≡ get_or asked i item → now ≡ vs ++ (v ∷ [])
-    → AreJudgedUnasked file (questions_view (take i asked)) vs
-    → ((rule : Rule) → IsFirstFailing (HoldsUnasked file (question_view item).account (question_view item).octets) rule
-    → v ≡ Some rule)
-    → AreJudgedUnasked file (questions_view (take (i + 1) asked)) now
-unasked_more file asked i item vs now v within is more h one =
-    subst (λ qs. AreJudgedUnasked file qs now) (sym (asked_more asked i item within is))
-    (subst (AreJudgedUnasked file (questions_view (take i asked) ++ (question_view item ∷ []))) (sym more)
-    (unasked_next file (questions_view (take i asked)) vs (question_view item) v h one))
+pub no_number_refused : (o : Outcome) (b : History) → (o.adding ≡ Fine → ⊥)
+    → (cause : Cause) × (no_number o b ≡ Some cause)
+no_number_refused o b h = refused_cause (nat_le greatest_number (greatest_serial b)) o.growing o.adding h
 
-pub unasked_failing : (file : PolicyValue) (asked : List Asked) (i : ℕ) (item : Asked) (vs now : List (Option Rule))
-    (fails : Rule) → i < length asked → item ≡ get_or asked i item → now ≡ vs ++ (Some fails ∷ [])
-    → AreJudgedUnasked file (questions_view (take i asked)) vs
-    → ((rule : Rule) → IsFirstFailing (HoldsUnasked file (question_view item).account (question_view item).octets) rule
-    → IsFailing rule (judged.Fails fails))
-    → AreJudgedUnasked file (questions_view (take (i + 1) asked)) now
-unasked_failing file asked i item vs now fails within is more h one =
-    unasked_more file asked i item vs now (Some fails) within is more h (λ rule first. ap Some (one rule first))
+-- what a refused look-up leaves fine
+pub look_refused : (account : Option AccountValue) (a : Question) (r : StampRefusal) → a.account ≡ account → IsOfLooks r
+    → IsSomebodys account r → IsFit (stamp_for a) (refused r) × ((refused r).signing ≡ Ok [])
+    × ((n : ℕ) → faults_after (refused r) n ≡ faults_after (record (refused r) { adding = Fine; sealing = Fine }) n)
+look_refused account a (refusal.Looking f) is of somebody =
+    (fits_stamp account a (refused (refusal.Looking f)) is refl (λ none. refl) (tt, tt), refl, λ n. refl)
+look_refused account a (refusal.Counting f) is of somebody =
+    (fits_stamp account a (refused (refusal.Counting f)) is refl (λ none. absurd (somebody none)) (tt, tt), refl, λ n. refl)
+look_refused account a refusal.Exhausted is of somebody = absurd of
+look_refused account a refusal.OutOfMemory is of somebody = absurd of
+look_refused account a (refusal.Adding f) is of somebody = absurd of
+look_refused account a (refusal.Signing f) is of somebody = absurd of
+look_refused account a refusal.OutOfReplyMemory is of somebody = absurd of
+look_refused account a (refusal.Sealing f) is of somebody = absurd of
 
-pub unasked_waiting : (file : PolicyValue) (asked : List Asked) (i : ℕ) (item : Asked) (vs now : List (Option Rule))
-    (w : Waiting) → i < length asked → item ≡ get_or asked i item → now ≡ vs ++ (None ∷ [])
-    → AreJudgedUnasked file (questions_view (take i asked)) vs
-    → ((rule : Rule) → IsFirstFailing (HoldsUnasked file (question_view item).account (question_view item).octets) rule
-    → IsFailing rule (judged.Waits w))
-    → AreJudgedUnasked file (questions_view (take (i + 1) asked)) now
-unasked_waiting file asked i item vs now w within is more h one =
-    unasked_more file asked i item vs now None within is more h (λ rule first. absurd (one rule first))
+-- what is found is one
+pub fails_alike : (one other : Rule) → Fails one ≡ Fails other → Some one ≡ Some other
+fails_alike one other e = cc
 
--- the commit of all reservations is refused
-pub reserved_in_doubt : {B : Type 0} (g : Ghosts B) (s : Setting) (asked : List Question) (vs : List (Option Rule))
-    (ws lent : List Waiting) (fault : StoreFault) (old mid new : B) (b : History) (left : g.Left) → lent ≡ ws
-    → (ws ≡ [] → ⊥) → IsOfStorage fault → OnlyLooks g old mid
-    → (g.honest mid → (d : History) → Stands g d old → AreJudged s asked vs ws d)
-    → Appends {A = Unit {0}} g (map Reserved (map waiting_view lent)) mid new (Err fault) → g.honest new
-    → Stands g b old → g.leaves new left
-    → g.leaves old left ⊎ IsReservedInDoubt g s asked vs ws (refusal.Adding fault) b left
-reserved_in_doubt g s asked vs ws lent fault old mid new b left same some storage looks judges appends honest stands r =
-    let before = appends.honest honest in
-    let are = judges before b stands in
-    let sound = subst (λ x. IsSound (with_waiting x b)) (sym same) (judged_sound s asked vs ws b are stands.sound) in
-    elim (appends.crash honest left r) [
-      | inl long_before ↦ inl (looks.leaves before left long_before)
-      | inr adds ↦ inr (record {
-        fault = fault;
-        by_commit = refl;
-        refused = is_refused fault storage;
-        some = some;
-        judged = are;
-        holds = subst (λ x. g.holds left (with_waiting x b)) same
-            (adds b (looks.stands b stands) (fit_each (map Reserved (map waiting_view lent)) b sound));
-      })
-    ]
+-- a rule fails
+pub judged_failing : {B : Type 0} (g : Ghosts B) (s : Setting) (a : Question) (ws : List Waiting) (rule : Rule)
+    (old new : B) → OnlyLooks g old new → g.fault_count new ≡ g.fault_count old
+    → (g.honest new → (b : History) → Stands g b old → IsSound (with_waiting ws b)
+    → Finds s.file a.account a.reading a.octets (all_fine (Ok [])) (with_waiting ws b) (Fails rule))
+    → ((other : Rule) → IsFirstFailing (HoldsUnasked s.file a.account a.octets) other → Fails rule ≡ Fails other)
+    → JudgesOne g s a ws (judged.Fails rule) old new
+judged_failing g s a ws rule old new looks counted finds unasked = record {
+  verdict = Settled rule (all_fine (Ok []));
+  tells = (all_fine (Ok []), refl);
+  rightly = record {
+    fits = fits_stamp a.account a (all_fine (Ok [])) refl refl (λ none. refl) (tt, tt);
+    unsigned = refl;
+    text = tt;
+    unasked = λ other first. fails_alike rule other (unasked other first);
+  };
+  looks = looks;
+  counted = counted;
+  judged = λ honest b stands sound. (Fails rule, finds honest b stands sound, refl);
+}
+
+-- a look-up is refused
+unanswered_alike : (cause : Cause) (rule : Rule) → Unanswered cause ≡ Fails rule → ⊥
+unanswered_alike cause rule e = cc
+
+pub judged_unanswered : {B : Type 0} (g : Ghosts B) (s : Setting) (a : Question) (ws : List Waiting) (r : StampRefusal)
+    (old new : B) → IsOfLooks r → IsSomebodys a.account r → OnlyLooks g old new
+    → g.fault_count new ≡ faults_after (refused r) (g.fault_count old)
+    → (g.honest new → (b : History) → Stands g b old → IsSound (with_waiting ws b)
+    → Finds s.file a.account a.reading a.octets (refused r) (with_waiting ws b) (Unanswered (cause_with r)))
+    → ((other : Rule) → IsFirstFailing (HoldsUnasked s.file a.account a.octets) other
+    → Unanswered (cause_with r) ≡ Fails other)
+    → JudgesOne g s a ws (judged.Fails System) old new
+judged_unanswered g s a ws r old new of somebody looks counted finds unasked =
+    let fine = look_refused a.account a r refl of somebody in
+    record {
+      verdict = Settled System (refused r);
+      tells = (refused r, refl);
+      rightly = record {
+        fits = fine.0;
+        unsigned = fine.1;
+        text = tt;
+        unasked = λ other first. absurd (unanswered_alike (cause_with r) other (unasked other first));
+      };
+      looks = looks;
+      counted = counted ∙ fine.2 (g.fault_count old);
+      judged = λ honest b stands sound. (Unanswered (cause_with r), finds honest b stands sound, refl);
+    }
+
+-- no rule fails
+allowed_alike : (plan : StampPlan) (rule : Rule) → Allowed plan ≡ Fails rule → ⊥
+allowed_alike plan rule e = cc
+
+pub judged_allowed : {B : Type 0} (g : Ghosts B) (s : Setting) (a : Question) (ws : List Waiting) (plan : StampPlan)
+    (last : ℕ) (told : Judged) (old new : B) → AwaitsOne s a plan last told → OnlyLooks g old new
+    → g.fault_count new ≡ g.fault_count old
+    → (g.honest new → (b : History) → Stands g b old → IsSound (with_waiting ws b)
+    → Finds s.file a.account a.reading a.octets (all_fine (Ok [])) (with_waiting ws b) (Allowed plan))
+    → (g.honest new → (b : History) → Stands g b old → IsSound (with_waiting ws b)
+    → last ≡ greatest_serial (with_waiting ws b))
+    → ((other : Rule) → IsFirstFailing (HoldsUnasked s.file a.account a.octets) other → Allowed plan ≡ Fails other)
+    → JudgesOne g s a ws told old new
+judged_allowed g s a ws plan last told old new awaited looks counted finds is_last unasked = record {
+  verdict = awaited.verdict;
+  tells = awaited.tells;
+  rightly = record {
+    fits = awaited.fits;
+    unsigned = awaited.unsigned;
+    text = awaited.text;
+    unasked = λ other first. absurd (allowed_alike plan other (unasked other first));
+  };
+  looks = looks;
+  counted = counted ∙ sym (awaited.uncounted (g.fault_count old));
+  judged = λ honest b stands sound.
+      awaited.judged (with_waiting ws b) (finds honest b stands sound) (is_last honest b stands sound);
+}
+
+-- none fails, but the commit of its reservation was refused
+pub judged_refused : {B : Type 0} (g : Ghosts B) (s : Setting) (a : Question) (plan : StampPlan) (reserving : Call)
+    (old new : B) → (reserving ≡ Fine → ⊥) → OnlyLooks g old new → g.fault_count new ≡ g.fault_count old
+    → (g.honest new → (b : History) → Stands g b old
+    → Finds s.file a.account a.reading a.octets (all_fine (Ok [])) b (Allowed plan))
+    → ((other : Rule) → IsFirstFailing (HoldsUnasked s.file a.account a.octets) other → Allowed plan ≡ Fails other)
+    → JudgesOne g s a [] (judged.Fails System) old new
+judged_refused g s a plan reserving old new refusal looks counted finds unasked =
+    let o = record (all_fine (Ok [])) { adding = reserving } in
+    record {
+      verdict = Settled System o;
+      tells = (o, refl);
+      rightly = record {
+        fits = fits_stamp a.account a o refl refl (λ none. refl) (tt, tt);
+        unsigned = refl;
+        text = tt;
+        unasked = λ other first. absurd (allowed_alike plan other (unasked other first));
+      };
+      looks = looks;
+      counted = counted;
+      judged = λ honest b stands sound.
+          let why = no_number_refused o b refusal in
+          unreserved s a plan o b why.0 (finds honest b stands) refl refl why.1;
+    }
+
+-- texts can't be written: no serial number is left, or memory wants
+pub awaits_none : (s : Setting) (a : Question) (plan : StampPlan) (last : ℕ) (o : Outcome) (cause : Cause)
+    → IsFit (stamp_for a) o → o.signing ≡ Ok [] → ((n : ℕ) → faults_after (record o { adding = Fine; sealing = Fine }) n ≡ n)
+    → o.looking ≡ Fine → o.counting ≡ Fine
+    → ((b : History) → last ≡ greatest_serial b → no_number o b ≡ Some cause)
+    → AwaitsOne s a plan last (judged.Fails System)
+awaits_none s a plan last o cause fits unsigned uncounted looking counting why = record {
+  verdict = Settled System o;
+  tells = (o, refl);
+  fits = fits;
+  unsigned = unsigned;
+  text = tt;
+  uncounted = uncounted;
+  judged = λ b found is. unreserved s a plan o b cause found looking counting (why b is);
+}

@@ -7,12 +7,12 @@ use Rattle.cms.specs.declared.signer.SignerFault.{SignerFault}
 use Rattle.cms.specs.declared.signer.SignerFault.TheVariants as signer
 use Rattle.book.specs.History.{Reserved, Sealed, Calibrated, History, ReservationValue, reservations}
 use Rattle.desk.specs.Facts.{clock_of, count_in}
-use Rattle.desk.specs.Outcome.{Failed, Fine, all_fine}
+use Rattle.desk.specs.Outcome.{Failed, all_fine}
 use Rattle.desk.specs.Command.{Rejected}
 use Rattle.desk.specs.Effects.{Effect, next_reservation, stamping_of, stamp_effect}
 use Rattle.desk.specs.Texts.{pending_of, token_with}
 use Rattle.desk.specs.MachineRuns.{after}
-use Rattle.desk.specs.Batches.{batch_of, with_reserved, once_reserved, after_batch, faults_together}
+use Rattle.desk.specs.Batches.{batch_of, with_reserved, once_reserved, after_batch, faults_along}
 use Rattle.desk.proofs.Rows.{carol, file, setting, reserved, history, plan}
 
 -- carol may have two stamps a day, and has one
@@ -81,9 +81,6 @@ between : once_reserved (batch_of (two (Ok (7 ∷ [])) (Ok (8 ∷ [])))) history
     ≡ Reserved fourth ∷ Reserved third ∷ history
 between = refl
 
--- a commit of the batch that failed is counted besides those of its stamps
-one_besides : faults_together Failed Fine (all_fine (Ok []) ∷ all_fine (Ok []) ∷ []) 7 ≡ 8
-one_besides = refl
-
-two_besides : faults_together Failed Failed (record (all_fine (Ok [])) { looking = Failed } ∷ []) 7 ≡ 10
-two_besides = refl
+-- what the judging of two met, of which one asked a store that failed
+one_counted : faults_along (record (all_fine (Ok [])) { looking = Failed } ∷ all_fine (Ok []) ∷ []) 7 ≡ 8
+one_counted = refl

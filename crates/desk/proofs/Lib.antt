@@ -10,9 +10,9 @@ pub mod Begins
 pub mod Branches
 pub mod Clocks
 pub mod ClosedBooks
+pub mod Committed
 pub mod CompletionLemmas
 pub mod Denied
-pub mod Doubted
 pub mod Entered
 pub mod FallingSerials
 pub mod FalseVariants
@@ -46,7 +46,6 @@ pub mod Sound
 pub mod Stamps
 pub mod StepFacts
 pub mod Successions
-pub mod Turns
 pub mod Views
 pub mod Whole
 pub mod WholeOn

@@ -7,7 +7,7 @@ use Rattle.book.specs.Entries.{with_all}
 use Rattle.book.specs.History.{Entry, Reserved, Sealed, History, ReservationValue, reservations}
 use Rattle.book.specs.Shows.{ShowsSame}
 use Rattle.book.specs.Sound.{IsSound}
-use Rattle.desk.specs.Outcome.{Call, counted, Outcome, faults_after}
+use Rattle.desk.specs.Outcome.{Outcome, faults_after}
 use Rattle.desk.specs.Command.{Setting, Command, Stamp, Answer}
 use Rattle.desk.specs.Effects.{Effect}
 use Rattle.desk.specs.MachineStep.{HasEffect, Moves}
@@ -127,11 +127,7 @@ pub record IsCutTogether (s : Setting) (asked : List Question) (b : History) (w 
   pub sound : IsSound history
   pub same : ShowsSame left history
 
--- The store's count of faults after commands, and after a batch: at most two calls are counted besides, the one at which
--- its first half was given up, and its second commit.
+-- the store's count of faults after what these outcomes met
 abbrev pub faults_along : List Outcome → ℕ → ℕ
 faults_along [] count = count
 faults_along (o ∷ os) count = faults_along os (faults_after o count)
-
-abbrev pub faults_together : Call → Call → List Outcome → ℕ → ℕ
-faults_together reserving sealing os count = counted sealing (counted reserving (faults_along os count))

@@ -7,6 +7,7 @@ pub mod Calls
 pub mod Closed
 pub mod Codes
 pub mod Command
+pub mod Commits
 pub mod Completions
 pub mod Content
 pub mod Continuation
@@ -25,6 +26,7 @@ pub mod Outcome
 pub mod Promises
 pub mod Readers
 pub mod Replies
+pub mod Rooms
 pub mod RunContract
 pub mod Serials
 pub mod Shown
@@ -35,4 +37,3 @@ pub mod Together
 pub mod Viewers
 pub mod WaitingStamps
 pub mod Wholes
-pub mod Written

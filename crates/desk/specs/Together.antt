@@ -10,26 +10,23 @@ use Rattle.cms.specs.Signer.{count_after_each}
 use Rattle.cms.specs.declared.signer.SignerFault.{SignerFault}
 use Rattle.cms.specs.declared.signer.SignerFault.TheVariants as signer
 use Rattle.decide.specs.View.{account_asked}
-use Rattle.book.specs.declared.fault.StoreFault.{StoreFault}
 use Rattle.book.specs.declared.standing.Standing.{Ghosts}
 use Rattle.book.specs.History.{Entry, Reserved, History, greatest_serial}
 use Rattle.book.specs.Shows.{ShowsSame}
-use Rattle.book.specs.Sound.{greatest_number}
-use Rattle.book.specs.Stands.{Stands}
-use Rattle.desk.specs.Outcome.{Call, Fine, Outcome, all_fine}
+use Rattle.book.specs.Sound.{IsSound, greatest_number}
+use Rattle.book.specs.Stands.{Stands, OnlyLooks}
+use Rattle.desk.specs.Outcome.{Call, Fine, OutOfMemory, Failed, Outcome, all_fine, counted, faults_after}
 use Rattle.desk.specs.MachineRuns.{Runs, Told}
-use Rattle.desk.specs.RunContract.{MayBeLeftBy, ArePromised}
-use Rattle.desk.specs.Findings.{StampPlan, HoldsUnasked, Fails, Allowed, Finds}
-use Rattle.desk.specs.Calls.{call_of}
+use Rattle.desk.specs.MachineStep.{HasEffect}
+use Rattle.desk.specs.RunContract.{ArePromised}
+use Rattle.desk.specs.Findings.{StampPlan, HoldsUnasked, Allowed, Finds}
 use Rattle.desk.specs.Command.{Setting, Answer, Rejected}
 use Rattle.desk.specs.Texts.{pending_of}
-use Rattle.desk.specs.Effects.{next_reservation, name_of}
-use Rattle.desk.specs.Batches.{Question, stamp_for, stamps_for, IsCutTogether, faults_together}
+use Rattle.desk.specs.Effects.{next_reservation, name_of, only}
+use Rattle.desk.specs.Batches.{Question, stamp_for, stamps_for, IsCutTogether, faults_along}
 use Rattle.desk.specs.Fit.{IsFit}
 use Rattle.desk.specs.WaitingStamps.{waiting_view, with_waiting, pending_in, HasText}
 use Rattle.desk.specs.declared.batch.Asked.{Asked}
-use Rattle.desk.specs.declared.refusal.StampRefusal.{StampRefusal}
-use Rattle.desk.specs.declared.refusal.StampRefusal.TheVariants as refusal
 use Rattle.desk.specs.declared.waiting_stamp.Waiting.{Waiting}
 use Rattle.desk.specs.declared.batch_start.Judged.{Judged}
 use Rattle.desk.specs.declared.batch_start.Judged.TheVariants as judged
@@ -48,30 +45,111 @@ pub record Awaits (s : Setting) (a : Question) (b : History) (w : Waiting) : Typ
   pub reserves : waiting_view w ≡ next_reservation s (name_of a.account) plan a.octets b
   pub pending : pending_in s w ≡ pending_of s plan (waiting_view w)
 
--- a stamp fails this rule first
-abbrev pub FailsAt : Setting → Question → History → Rule → Type 0
-FailsAt s a b rule = Finds s.file a.account a.reading a.octets (all_fine (Ok [])) b (Fails rule)
+-- How a stamp is judged: it is rejected by this rule, where this was met; or it waits for its signature.
+pub data Verdict : Type 0 where
+  Settled : Rule → Outcome → Verdict
+  Waits : Waiting → Verdict
 
--- how one stamp is judged
-abbrev pub IsJudgedAs : Setting → Question → History → Judged → Type 0
-IsJudgedAs s a b (judged.Fails rule) = FailsAt s a b rule
-IsJudgedAs s a b (judged.Waits w) = Awaits s a b w
+pub record JudgedStamp : Type 0 where
+  pub question : Question
+  pub verdict : Verdict
 
-abbrev pub HasItsText : Setting → Judged → Type 0
-HasItsText s (judged.Fails rule) = Unit {0}
-HasItsText s (judged.Waits w) = HasText s w
+abbrev pub rule_of : Verdict → Option Rule
+rule_of (Settled rule o) = Some rule
+rule_of (Waits w) = None
 
--- How the stamps of a batch are judged, each by the history with the reservations of those before it: the rule that it
--- fails, or none, where it waits.
-abbrev pub AreJudged : Setting → List Question → List (Option Rule) → List Waiting → History → Type 0
-AreJudged s [] [] [] b = Unit {0}
-AreJudged s (a ∷ asked) (Some rule ∷ vs) ws b = FailsAt s a b rule × AreJudged s asked vs ws b
-AreJudged s (a ∷ asked) (None ∷ vs) (w ∷ ws) b =
-    Awaits s a b w × AreJudged s asked vs ws (Reserved (waiting_view w) ∷ b)
-AreJudged s (a ∷ asked) (None ∷ vs) [] b = ⊥
-AreJudged s [] [] (w ∷ ws) b = ⊥
-AreJudged s [] (v ∷ vs) ws b = ⊥
-AreJudged s (a ∷ asked) [] ws b = ⊥
+abbrev pub rules_of : List JudgedStamp → List (Option Rule)
+rules_of js = map (λ j. rule_of j.verdict) js
+
+-- what was met, and what of it the store was asked for the judging
+abbrev pub met_by : Verdict → Outcome
+met_by (Settled rule o) = o
+met_by (Waits w) = all_fine (Ok [])
+
+abbrev pub looks_of : Verdict → Outcome
+looks_of verdict = record (met_by verdict) { adding = Fine; sealing = Fine }
+
+abbrev pub all_looks : List JudgedStamp → List Outcome
+all_looks js = map (λ j. looks_of j.verdict) js
+
+-- what waits, the first of the list first
+abbrev pub waiting_before : Verdict → List Waiting → List Waiting
+waiting_before (Settled rule o) ws = ws
+waiting_before (Waits w) ws = w ∷ ws
+
+abbrev pub waits_of : List JudgedStamp → List Waiting
+waits_of [] = []
+waits_of (j ∷ js) = waiting_before j.verdict (waits_of js)
+
+-- the history by which the next one is judged
+abbrev pub reserved_for : Verdict → History → History
+reserved_for (Settled rule o) b = b
+reserved_for (Waits w) b = Reserved (waiting_view w) ∷ b
+
+abbrev pub IsJudgedAs : Setting → Question → Verdict → History → Type 0
+IsJudgedAs s a (Settled rule o) b = HasEffect s (stamp_for a) o b (only (Rejected rule))
+IsJudgedAs s a (Waits w) b = Awaits s a b w
+
+-- each by the history with the reservations of those before it
+abbrev pub AreJudged : Setting → List JudgedStamp → History → Type 0
+AreJudged s [] b = Unit {0}
+AreJudged s (j ∷ js) b = IsJudgedAs s j.question j.verdict b × AreJudged s js (reserved_for j.verdict b)
+
+abbrev pub HasItsText : Setting → Verdict → Type 0
+HasItsText s (Settled rule o) = Unit {0}
+HasItsText s (Waits w) = HasText s w
+
+-- What holds of a stamp that was judged, whatever the store answers: the calls that a stamp doesn't make are fine, no
+-- signer was asked, what waits has its text, and one that fails a rule of 1 to 9 is rejected by the first.
+pub record IsJudgedRightly (s : Setting) (j : JudgedStamp) : Type 0 where
+  pub fits : IsFit (stamp_for j.question) (met_by j.verdict)
+  pub unsigned : (met_by j.verdict).signing ≡ Ok []
+  pub text : HasItsText s j.verdict
+  pub unasked : (rule : Rule) → IsFirstFailing (HoldsUnasked s.file j.question.account j.question.octets) rule
+      → rule_of j.verdict ≡ Some rule
+
+-- Stamps are judged: a rule for each that is rejected, and what waits of the others. Nothing is changed.
+pub record JudgesEach {B : Type 0} (g : Ghosts B) (s : Setting) (asked : List Question) (rules : List (Option Rule))
+    (ws : List Waiting) (old new : B) : Type 0 where
+  pub stamps : List JudgedStamp
+  pub questions : map (λ j. j.question) stamps ≡ asked
+  pub rules_are : rules_of stamps ≡ rules
+  pub waits : waits_of stamps ≡ ws
+  pub rightly : AllByRecursion (IsJudgedRightly s) stamps
+  pub looks : OnlyLooks g old new
+  pub counted : g.fault_count new ≡ faults_along (all_looks stamps) (g.fault_count old)
+  pub judged : g.honest new → (b : History) → Stands g b old → AreJudged s stamps b
+
+-- one of them, by the program's types
+abbrev pub IsTold : Judged → Verdict → Type 0
+IsTold (judged.Fails rule) verdict = (o : Outcome) × (verdict ≡ Settled rule o)
+IsTold (judged.Waits w) verdict = verdict ≡ Waits w
+
+pub record JudgesOne {B : Type 0} (g : Ghosts B) (s : Setting) (a : Question) (ws : List Waiting) (told : Judged)
+    (old new : B) : Type 0 where
+  pub verdict : Verdict
+  pub tells : IsTold told verdict
+  pub rightly : IsJudgedRightly s (record { question = a; verdict = verdict })
+  pub looks : OnlyLooks g old new
+  pub counted : g.fault_count new ≡ faults_after (looks_of verdict) (g.fault_count old)
+  pub judged : g.honest new → (b : History) → Stands g b old → IsSound (with_waiting ws b)
+      → IsJudgedAs s a verdict (with_waiting ws b)
+
+-- the same of one that no rule refuses, by its plan: its texts are written
+pub record AwaitsOne (s : Setting) (a : Question) (plan : StampPlan) (last : ℕ) (told : Judged) : Type 0 where
+  pub verdict : Verdict
+  pub tells : IsTold told verdict
+  pub fits : IsFit (stamp_for a) (met_by verdict)
+  pub unsigned : (met_by verdict).signing ≡ Ok []
+  pub text : HasItsText s verdict
+  pub uncounted : (count : ℕ) → faults_after (looks_of verdict) count ≡ count
+  pub judged : (b : History) → Finds s.file a.account a.reading a.octets (all_fine (Ok [])) b (Allowed plan)
+      → last ≡ greatest_serial b → IsJudgedAs s a verdict b
+
+-- it is put behind those before it
+abbrev pub IsKept : Judged → List (Option Rule) → List (Option Rule) → List Waiting → List Waiting → Type 0
+IsKept (judged.Fails rule) rules rules' ws ws' = (rules' ≡ rules ++ (Some rule ∷ [])) × (ws' ≡ ws)
+IsKept (judged.Waits w) rules rules' ws ws' = (rules' ≡ rules ++ (None ∷ [])) × (ws' ≡ ws ++ (w ∷ []))
 
 -- a reply for each: the rejection by the rule that it fails, or, where it waited, what came of it
 abbrev pub merged : List (Option Rule) → List Answer → List Answer
@@ -86,29 +164,11 @@ reply_for (Some rule) completion = Rejected rule
 reply_for None (Some answer) = answer
 reply_for None None = Rejected System
 
--- it fails this rule
-abbrev pub IsFailing : Rule → Judged → Type 0
-IsFailing rule (judged.Fails r) = r ≡ rule
-IsFailing rule (judged.Waits w) = ⊥
-
--- each stamp that fails one of the rules 1 to 9 is judged by the first, whatever the store answers
-abbrev pub AreJudgedUnasked : PolicyValue → List Question → List (Option Rule) → Type 0
-AreJudgedUnasked file [] [] = Unit {0}
-AreJudgedUnasked file (a ∷ asked) (v ∷ vs) =
-    ((rule : Rule) → IsFirstFailing (HoldsUnasked file a.account a.octets) rule → v ≡ Some rule)
-    × AreJudgedUnasked file asked vs
-AreJudgedUnasked file [] (v ∷ vs) = ⊥
-AreJudgedUnasked file (a ∷ asked) [] = ⊥
-
--- The commit of all reservations was refused: the history with them, where it is there after all.
-pub record IsReservedInDoubt {B : Type 0} (g : Ghosts B) (s : Setting) (asked : List Question)
-    (vs : List (Option Rule)) (ws : List Waiting) (r : StampRefusal) (b : History) (left : g.Left) : Type 0 where
-  pub fault : StoreFault
-  pub by_commit : r ≡ refusal.Adding fault
-  pub refused : call_of fault ≡ Fine → ⊥
-  pub some : ws ≡ [] → ⊥
-  pub judged : AreJudged s asked vs ws b
-  pub holds : g.holds left (with_waiting ws b)
+-- the replies of those that waited, where their tokens were sealed, and else none
+abbrev pub IsToldBy : Call → List Answer → List Answer → Type 0
+IsToldBy Fine replies told = told ≡ replies
+IsToldBy OutOfMemory replies told = told ≡ []
+IsToldBy Failed replies told = told ≡ []
 
 -- the outcomes fit their stamps: the calls that they don't make are fine
 abbrev pub AreFit : List Question → List Outcome → Type 0
@@ -116,20 +176,6 @@ AreFit [] [] = Unit {0}
 AreFit (a ∷ asked) (o ∷ os) = IsFit (stamp_for a) o × AreFit asked os
 AreFit [] (o ∷ os) = ⊥
 AreFit (a ∷ asked) [] = ⊥
-
--- a verdict for each stamp, and what waits for each that no rule refuses
-abbrev pub AreSplit : List Question → List (Option Rule) → List Waiting → Type 0
-AreSplit [] [] [] = Unit {0}
-AreSplit (a ∷ asked) (Some rule ∷ vs) ws = AreSplit asked vs ws
-AreSplit (a ∷ asked) (None ∷ vs) (w ∷ ws) = AreSplit asked vs ws
-AreSplit (a ∷ asked) (None ∷ vs) [] = ⊥
-AreSplit [] [] (w ∷ ws) = ⊥
-AreSplit [] (v ∷ vs) ws = ⊥
-AreSplit (a ∷ asked) [] ws = ⊥
-
--- no commit of a stamp of its own was refused
-abbrev pub AreCommitted : List Outcome → Type 0
-AreCommitted os = AllByRecursion (λ o. (o.adding ≡ Fine) × (o.sealing ≡ Fine)) os
 
 -- the signer answers each the same, or its answer never comes
 abbrev pub AreSignedAlike : List Outcome → List Outcome → Type 0
@@ -139,11 +185,11 @@ AreSignedAlike (o ∷ os) (other ∷ others) =
 AreSignedAlike [] (other ∷ others) = ⊥
 AreSignedAlike (o ∷ os) [] = ⊥
 
--- A commit was refused, of all the stamps or of one by itself, and nothing was added after it: where it is there after
--- all, a history that shows what the last one shows, with what was in doubt.
+-- One of the two commits was refused, and nothing was added after it: where it is there after all, a history that shows
+-- what the last one shows, with what was in doubt.
 pub record IsDoubtedTogether {B : Type 0} (g : Ghosts B) (s : Setting) (asked : List Question) (os : List Outcome)
     (reserving sealing : Call) (b last : History) (left : g.Left) : Type 0 where
-  pub refused : reserving ≡ Fine → sealing ≡ Fine → AreCommitted os → ⊥
+  pub refused : reserving ≡ Fine → sealing ≡ Fine → ⊥
   pub history : History
   pub doubted : List Entry
   pub same : ShowsSame history (doubted ++ last)
@@ -153,12 +199,13 @@ pub record IsDoubtedTogether {B : Type 0} (g : Ghosts B) (s : Setting) (asked : 
   pub signed : (w : List Told) → AreSignedAlike os (cut w).outcomes
   pub holds : g.holds left history
 
--- What a stop after the stamps may leave: what one after a run over them may, or what a refused commit left in doubt.
+-- What a stop after the stamps may leave: where nothing was added, what it could leave before; the history after them;
+-- or what a refused commit left in doubt.
 abbrev pub MayBeLeftTogether : {B : Type 0} → (g : Ghosts B) → Setting → List Question → List Outcome → Call → Call
     → History → B → History → g.Left → Type 0
 MayBeLeftTogether g s asked os reserving sealing b old last left =
-    MayBeLeftBy g s (stamps_for asked) os b old last left
-    ⊎ IsDoubtedTogether g s asked os reserving sealing b last left
+    ((last ≡ b) × g.leaves old left)
+    ⊎ (g.holds left last ⊎ IsDoubtedTogether g s asked os reserving sealing b last left)
 
 -- From a history that the store stood for: the answers, the history that follows and the signer are a run of the
 -- machine over the stamps, one after the other, in their order; the store stands for that history, and so does what a
@@ -183,18 +230,20 @@ AreRejectedUnasked file (a ∷ asked) (answer ∷ answers) =
 AreRejectedUnasked file [] (answer ∷ answers) = ⊥
 AreRejectedUnasked file (a ∷ asked) [] = ⊥
 
--- Stamps that are answered together are a run, under outcomes that fit them. The store counts what these outcomes
--- count, and besides at most two calls of the batch: the one by which its first half was given up, a look-up or the
--- commit of all reservations; and the commit of all seals. After each of the two the stamps go on one by one. By the
--- rules 1 to 9 each is judged whatever store and signer do.
+-- Stamps that are answered together are a run, under outcomes that fit them. The store counts what their judging met,
+-- and the two commits: of all reservations, and of all seals. By the rules 1 to 9 each is judged whatever store and
+-- signer do.
 pub record IsAnsweredTogether {B S : Type 0} (g : Ghosts B)
     (signs : S → List ℕ → Result (List ℕ) SignerFault → S → Type 0) (count : S → ℕ) (s : Setting)
     (asked : List Question) (answers : List Answer) (old : B) (x : S) (new : B) (y : S) : Type 0 where
   pub outcomes : List Outcome
   pub fits : AreFit asked outcomes
+  -- what the judging met, which commits nothing
+  pub looks : List Outcome
+  pub uncommitted : AllByRecursion (λ o. (o.adding ≡ Fine) × (o.sealing ≡ Fine)) looks
   pub reserving : Call
   pub sealing : Call
-  pub counted : g.fault_count new ≡ faults_together reserving sealing outcomes (g.fault_count old)
+  pub counted : g.fault_count new ≡ counted sealing (counted reserving (faults_along looks (g.fault_count old)))
   pub signer : count y ≡ count_after_each (map (λ o. o.signing) outcomes) (count x)
   pub judged : AreRejectedUnasked s.file asked answers
   pub run : g.honest new → (b : History) → Stands g b old

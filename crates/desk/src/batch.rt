@@ -1,24 +1,22 @@
 //! Stamps that are answered together.
-ghost use Rattle.std.specs.Prelude.{◌≡◌, ◌≤◌, List, [], map, length, IfOk, IfErr, OnErr, vec_capacity};
+ghost use Rattle.std.specs.Prelude.{◌≡◌, ◌≤◌, [], map, length, IfOk, IfErr, OnErr, vec_capacity};
 ghost use Rattle.std.specs.Prelude.{option_map};
-ghost use Rattle.policy.specs.View.{policy_view};
+ghost use Rattle.book.specs.Fault.{IsOfStorage};
 ghost use Rattle.desk.specs.Answers.{reply_as};
-ghost use Rattle.desk.specs.Batches.{stamps_for};
 ghost use Rattle.desk.specs.Calls.{settings_view};
-ghost use Rattle.desk.specs.Outcome.{Outcome};
-ghost use Rattle.desk.specs.RunContract.{AreSteps};
-ghost use Rattle.desk.specs.Together.{questions_view, merged, reply_for, AreRejectedUnasked, IsAnsweredTogether};
+ghost use Rattle.desk.specs.Commits.{call_for};
+ghost use Rattle.desk.specs.Rooms.{AreRooms};
+ghost use Rattle.desk.specs.Together.{questions_view, merged, reply_for, IsToldBy, IsAnsweredTogether};
 
-use crate::batch_start::begin_each;
-use crate::completion::{WaitingBatch, complete_each};
+use crate::batch_start::{judge_each, reserve_each, settle_each};
+use crate::completion::{Seal, WaitingBatch, WrittenBatch, seal_each, write_each};
 use crate::desk::Desk;
 use crate::fault::Fault;
 use crate::reply::Reply;
-use crate::settings::{Settings, is_proper};
-use crate::stamp::answer_with;
+use crate::settings::Settings;
 use crate::stamp_end::no_answer;
-use book::{Book, histories_show_the_same};
-use cms::Signer;
+use book::{Book, StoreFault, histories_show_the_same};
+use cms::{Signer, SignerFault};
 use policy::Account;
 use std::alloc::Global;
 use tsp::{Rejection, Rule, requests_have_one_reading};
@@ -41,27 +39,37 @@ pub(crate) struct AskedBatch<'b, 'p, 'a> {
     pub(crate) asked: &'b [Asked<'a>],
 }
 
-/// Answers each stamp by itself, one after the other. The caller has taken the room for the replies.
-fn answer_in_turn<B: Book + Drop, G: Signer>(
-    store: &mut B,
-    alloc: Global,
-    batch: AskedBatch<'_, '_, '_>,
-    signer: &mut G,
-    replies: &mut Vec<Reply>,
-)
-    requires empty { replies.old.items ≡ [] }
-    requires room { length batch.asked.now ≤ vec_capacity replies.old }
-    ensures steps { (os : List Outcome) × AreSteps B.Standing G.signs G.fault_count
-        (settings_view batch.entry.settings) (stamps_for (questions_view batch.entry.asked.now)) os
-        (map reply_as replies.new.items) store.old signer.old (settings_view batch.entry.settings) store.new
-        signer.new }
-    ensures unasked { AreRejectedUnasked (policy_view batch.entry.settings.policy.now)
-        (questions_view batch.entry.asked.now) (map reply_as replies.new.items) }
+/// The lists of a batch that borrow nothing, empty, each with room for all its stamps.
+#[derive(Drop)]
+struct Rooms {
+    verdicts: Vec<Option<Rule>>,
+    answers: Vec<Result<Vec<u8>, SignerFault>>,
+    seals: Vec<Seal>,
+    completed: Vec<Reply>,
+    replies: Vec<Reply>,
+}
+
+/// An empty list with room for so many. Refused where memory wants.
+fn room_for<T: Drop>(alloc: Global, count: usize) -> Result<Vec<T>, Fault>
+    ensures empty { IfOk result (λ room. room.items ≡ []) }
+    ensures room { IfOk result (λ room. count ≤ vec_capacity room) }
+    ensures memory { IfErr result (λ fault. fault ≡ Fault.Memory) }
 {
-    let AskedBatch { settings, asked } = batch;
-    for question in asked {
-        replies.push_reserved(answer_with(store, alloc, settings, *question, signer));
-    }
+    Vec::with_capacity(alloc, count).map_err(|_| Fault::Memory)
+}
+
+/// The lists of a batch of so many. Refused where memory wants.
+fn rooms_for(alloc: Global, count: usize) -> Result<Rooms, Fault>
+    ensures rooms { IfOk result (AreRooms count) }
+    ensures memory { IfErr result (λ fault. fault ≡ Fault.Memory) }
+{
+    Ok(Rooms {
+        verdicts: room_for(alloc, count)?,
+        answers: room_for(alloc, count)?,
+        seals: room_for(alloc, count)?,
+        completed: room_for(alloc, count)?,
+        replies: room_for(alloc, count)?,
+    })
 }
 
 /// The reply to a stamp: the rejection by the rule that it fails, or what came of it, where it waited.
@@ -94,17 +102,20 @@ fn merge(verdicts: &[Option<Rule>], completed: Vec<Reply>, replies: &mut Vec<Rep
     }
 }
 
-/// An empty list with room for so many. Refused where memory wants.
-fn room_for<T: Drop>(alloc: Global, count: usize) -> Result<Vec<T>, Fault>
-    ensures empty { IfOk result (λ room. room.items ≡ []) }
-    ensures room { IfOk result (λ room. count ≤ vec_capacity room) }
-    ensures memory { IfErr result (λ fault. fault ≡ Fault.Memory) }
+/// The replies to the stamps that waited, where their tokens are sealed, and else none.
+fn told_by(sealed: Result<(), StoreFault>, written: WrittenBatch) -> Vec<Reply>
+    requires storage { IfErr sealed IsOfStorage }
+    ensures { IsToldBy (call_for sealed) (map reply_as written.replies.items) (map reply_as result.items) }
 {
-    Vec::with_capacity(alloc, count).map_err(|_| Fault::Memory)
+    let WrittenBatch { seals: _, replies } = written;
+    let mut told = replies;
+    if sealed.is_err() {
+        told.clear();
+    }
+    told
 }
 
-/// Answers stamps together, and each by itself where a call of the judging or the one commit of their reservations is
-/// refused. Room for all lists is taken first.
+/// Answers stamps together. Room for all lists is taken first.
 fn answer_together<B: Book + Drop, G: Signer>(
     store: &mut B,
     alloc: Global,
@@ -121,24 +132,38 @@ fn answer_together<B: Book + Drop, G: Signer>(
 {
     requests_have_one_reading();
     histories_show_the_same();
-    is_proper(settings);
-    let mut verdicts = room_for(alloc, asked.len())?;
+    let Rooms {
+        mut verdicts,
+        mut answers,
+        seals,
+        completed,
+        mut replies,
+    } = rooms_for(alloc, asked.len())?;
     let mut waits = room_for(alloc, asked.len())?;
-    let mut completed = room_for(alloc, asked.len())?;
-    let mut replies = room_for(alloc, asked.len())?;
     let batch = AskedBatch { settings, asked };
-    match begin_each(store, alloc, batch, &mut verdicts, &mut waits) {
-        Ok(()) => {
-            let waiting = WaitingBatch {
+    judge_each(store, alloc, batch, &mut verdicts, &mut waits);
+    let completed = match reserve_each(store, alloc, &waits) {
+        Ok(texts) => {
+            let batch = WaitingBatch {
                 settings,
                 waits: &waits,
             };
-            complete_each(store, alloc, waiting, signer, &mut completed);
-            merge(&verdicts, completed, &mut replies);
-            store.tell_the_same();
+            let mut written = WrittenBatch {
+                seals,
+                replies: completed,
+            };
+            signer.sign_each(&texts, &mut answers);
+            write_each(alloc, batch, &answers, &mut written);
+            let sealed = seal_each(store, alloc, &written.seals);
+            told_by(sealed, written)
         }
-        Err(_) => answer_in_turn(store, alloc, batch, signer, &mut replies),
-    }
+        Err(_) => {
+            settle_each(store, batch, &mut verdicts);
+            completed
+        }
+    };
+    merge(&verdicts, completed, &mut replies);
+    store.tell_the_same();
     Ok(replies)
 }
 
@@ -146,11 +171,12 @@ impl<'p, B: Book + Drop> Desk<'p, B> {
     /// Answers stamps together (RFC 3161 2.4.2): a reply for each, in their order, as if each was answered by `answer`,
     /// one after the other. All that no rule refuses are reserved in one commit, their texts are signed in their order,
     /// and all that were signed are sealed in a second one, after which they are answered. Each is judged by the
-    /// history with the reservations of those before it. One whose signer or memory refuses is rejected by rule 12,
-    /// stays void, and leaves the others. Where a call before the first commit is refused, or that commit, nothing was
-    /// done, and each is answered by itself; where the second is refused, each is sealed by itself.
+    /// history with the reservations of those before it. One for which a call of the store, the signer or memory is
+    /// refused is rejected by rule 12, stays void where it was reserved, and leaves the others. Where one of the two
+    /// commits is refused, all that waited for it are rejected by rule 12.
     ///
-    /// Room for the replies is taken first: where it is refused, the answer is `Memory`, and nothing is done.
+    /// Room for verdicts, signatures, tokens and replies is taken first: where it is refused, the answer is `Memory`, and
+    /// nothing is done.
     pub fn answer_each<G: Signer>(
         &mut self,
         asked: &[Asked<'_>],

@@ -1,25 +1,20 @@
 //! Stamps that are answered together, up to the one commit of their reservations.
-ghost use Rattle.std.specs.Prelude.{◌≡◌, ◌≤◌, ◌<◌, ◌⊎◌, [], map, length, IfOk, IfErr, OnErr, vec_capacity};
-ghost use Rattle.std.specs.List.{AllByRecursion};
-ghost use Rattle.policy.specs.View.{policy_view};
-ghost use Rattle.tsp.specs.Rules.{IsFirstFailing};
-ghost use Rattle.tsp.specs.declared.rule.Rule.{Rule};
-ghost use Rattle.decide.specs.View.{account_asked};
-ghost use Rattle.book.specs.Entries.{entries_view, Appends};
+ghost use Rattle.std.specs.Prelude.{◌≡◌, ◌≤◌, ◌<◌, ◌+◌, [], map, length, IfOk, IfErr, vec_capacity, vec_len};
+ghost use Rattle.book.specs.Entries.{entries_view};
 ghost use Rattle.book.specs.Fault.{IsOfStorage};
-ghost use Rattle.book.specs.History.{History, Reserved};
-ghost use Rattle.book.specs.Sound.{IsSound};
-ghost use Rattle.book.specs.Stands.{Stands, OnlyLooks, LeavesAsBefore};
-ghost use Rattle.desk.specs.Calls.{outcome_of, settings_view};
-ghost use Rattle.desk.specs.Findings.{HoldsUnasked};
-ghost use Rattle.desk.specs.Outcome.{faults_after};
-ghost use Rattle.desk.specs.Together.{question_view, questions_view, IsJudgedAs, HasItsText, AreJudged};
-ghost use Rattle.desk.specs.Together.{AreSplit, IsFailing, AreJudgedUnasked, IsReservedInDoubt};
-ghost use Rattle.desk.specs.WaitingStamps.{waiting_view, with_waiting, HasText};
+ghost use Rattle.book.specs.History.{Reserved};
+ghost use Rattle.tsp.specs.Request.{Spells};
+ghost use Rattle.tsp.specs.View.{request_view};
+ghost use Rattle.desk.specs.Calls.{settings_view, plan_of};
+ghost use Rattle.desk.specs.Commits.{call_for, IsCommitted};
+ghost use Rattle.desk.specs.Outcome.{Call, Fine};
+ghost use Rattle.desk.specs.Together.{question_view, questions_view, JudgesEach, JudgesOne, AwaitsOne, IsKept};
+ghost use Rattle.desk.specs.WaitingStamps.{waiting_view};
+ghost use Rattle.desk.specs.declared.batch_start.Judged.TheVariants as judged;
 
 use crate::batch::{Asked, AskedBatch};
-use crate::findings::{Judgement, find_among};
-use crate::refusal::StampRefusal;
+use crate::commit::commit;
+use crate::findings::{Judgement, Planned, find, find_among};
 use crate::reservation::prepare;
 use crate::settings::Settings;
 use crate::stamp_start::name_of;
@@ -31,10 +26,35 @@ use tsp::Rule;
 /// How a stamp of a batch is judged.
 #[derive(Drop)]
 pub(crate) enum Judged<'p, 'a> {
-    /// The first rule of 1 to 11 that fails.
+    /// It is rejected: by the first rule of 1 to 11 that fails, or by rule 12 where a call that it needs was refused.
     Fails(Rule),
     /// None fails, and its texts are written.
     Waits(Waiting<'p, 'a>),
+}
+
+/// Writes the texts of a stamp that no rule refuses.
+fn await_one<'p, 'a>(
+    alloc: Global,
+    settings: Settings<'p>,
+    asked: Asked<'a>,
+    planned: Planned<'p, 'a>,
+) -> Judged<'p, 'a>
+    requires spelled { Spells asked.query.now (request_view planned.request) }
+    requires short { length asked.query.now ≤ 65536 }
+    ensures awaits { AwaitsOne (settings_view settings.entry) (question_view asked.entry) (plan_of planned.entry)
+        planned.entry.last result }
+{
+    if planned.last >= GREATEST_NUMBER {
+        return Judged::Fails(Rule::System);
+    }
+    match prepare(alloc, settings, planned, asked.query) {
+        Ok(prepared) => Judged::Waits(Waiting {
+            account: name_of(asked.account),
+            query: asked.query,
+            prepared,
+        }),
+        Err(_) => Judged::Fails(Rule::System),
+    }
 }
 
 /// Judges one stamp by the history with the reservations of those that wait, and writes its texts where it waits too.
@@ -44,68 +64,78 @@ fn judge_one<'p, 'a, B: Book + Drop>(
     settings: Settings<'p>,
     waits: &[Waiting<'p, 'a>],
     asked: Asked<'a>,
-) -> Result<Judged<'p, 'a>, StampRefusal>
-    ensures looks { OnlyLooks B.Standing store.old store.new }
-    ensures counted { B.fault_count store.new ≡ faults_after (outcome_of result) (B.fault_count store.old) }
-    ensures judges { B.honest store.new → (b : History) → Stands B.Standing b store.old
-        → IsSound (with_waiting waits.now b)
-        → IfOk result (IsJudgedAs (settings_view settings.entry) (question_view asked.entry)
-        (with_waiting waits.now b)) }
-    ensures texts { IfOk result (HasItsText (settings_view settings.entry)) }
-    ensures unasked { (rule : Rule) → IsFirstFailing (HoldsUnasked (policy_view settings.entry.policy.now)
-        (account_asked asked.entry.account) asked.entry.query.now) rule → IfOk result (IsFailing rule) }
+) -> Judged<'p, 'a>
+    ensures judges { JudgesOne B.Standing (settings_view settings.entry) (question_view asked.entry) waits.now result
+        store.old store.new }
 {
-    match find_among(store, waits, settings.policy, asked)? {
-        Judgement::Fails(rule) => Ok(Judged::Fails(rule)),
-        Judgement::Allows(planned) => {
-            if planned.last >= GREATEST_NUMBER {
-                return Err(StampRefusal::Exhausted);
-            }
-            let prepared = prepare(alloc, settings, planned, asked.query)?;
-            Ok(Judged::Waits(Waiting {
-                account: name_of(asked.account),
-                query: asked.query,
-                prepared,
-            }))
+    match find_among(store, waits, settings.policy, asked) {
+        Ok(Judgement::Fails(rule)) => Judged::Fails(rule),
+        Ok(Judgement::Allows(planned)) => await_one(alloc, settings, asked, planned),
+        Err(_) => Judged::Fails(Rule::System),
+    }
+}
+
+/// Puts a stamp that was judged behind those before it.
+fn keep<'p, 'a>(
+    judged: Judged<'p, 'a>,
+    verdicts: &mut Vec<Option<Rule>>,
+    waits: &mut Vec<Waiting<'p, 'a>>,
+)
+    requires room_for_verdict { vec_len verdicts.old < vec_capacity verdicts.old }
+    requires room_for_wait { vec_len waits.old < vec_capacity waits.old }
+    ensures kept { IsKept judged.entry verdicts.old.items verdicts.new.items waits.old.items waits.new.items }
+    ensures one_verdict { vec_len verdicts.new ≡ vec_len verdicts.old + 1 }
+    ensures few_waits { vec_len waits.new ≤ vec_len waits.old + 1 }
+    ensures room_for_verdicts { vec_capacity verdicts.new ≡ vec_capacity verdicts.old }
+    ensures room_for_waits { vec_capacity waits.new ≡ vec_capacity waits.old }
+{
+    match judged {
+        Judged::Fails(rule) => verdicts.push_reserved(Some(rule)),
+        Judged::Waits(waiting) => {
+            verdicts.push_reserved(None);
+            waits.push_reserved(waiting);
         }
     }
 }
 
 /// Judges each stamp in turn: a rule that it fails, or none, where it waits. The caller has taken the room for both
 /// lists.
-fn judge_each<'p, 'a, B: Book + Drop>(
+pub(crate) fn judge_each<'p, 'a, B: Book + Drop>(
     store: &mut B,
     alloc: Global,
     batch: AskedBatch<'_, 'p, 'a>,
     verdicts: &mut Vec<Option<Rule>>,
     waits: &mut Vec<Waiting<'p, 'a>>,
-) -> Result<(), StampRefusal>
+)
     requires none_judged { verdicts.old.items ≡ [] }
     requires none_waits { waits.old.items ≡ [] }
     requires verdicts_room { length batch.asked.now ≤ vec_capacity verdicts.old }
     requires waits_room { length batch.asked.now ≤ vec_capacity waits.old }
-    ensures looks { OnlyLooks B.Standing store.old store.new }
-    ensures counted { B.fault_count store.new ≡ faults_after (outcome_of result) (B.fault_count store.old) }
-    ensures judges { IfOk result (λ _. B.honest store.new → (b : History) → Stands B.Standing b store.old
-        → AreJudged (settings_view batch.entry.settings) (questions_view batch.entry.asked.now) verdicts.new.items
-        waits.new.items b) }
-    ensures split { IfOk result (λ _. AreSplit (questions_view batch.entry.asked.now) verdicts.new.items
-        waits.new.items) }
-    ensures texts { IfOk result (λ _. AllByRecursion (HasText (settings_view batch.entry.settings)) waits.new.items) }
-    ensures unasked { IfOk result (λ _. AreJudgedUnasked (policy_view batch.entry.settings.policy.now)
-        (questions_view batch.entry.asked.now) verdicts.new.items) }
+    ensures judges { JudgesEach B.Standing (settings_view batch.entry.settings) (questions_view batch.entry.asked.now)
+        verdicts.new.items waits.new.items store.old store.new }
+    ensures many { length verdicts.new.items ≡ length batch.entry.asked.now }
+    ensures few { length waits.new.items ≤ length batch.entry.asked.now }
 {
     let AskedBatch { settings, asked } = batch;
     for question in asked {
-        match judge_one(store, alloc, settings, waits, *question)? {
-            Judged::Fails(rule) => verdicts.push_reserved(Some(rule)),
-            Judged::Waits(waiting) => {
-                verdicts.push_reserved(None);
-                waits.push_reserved(waiting);
-            }
-        }
+        let judged = judge_one(store, alloc, settings, waits, *question);
+        keep(judged, verdicts, waits);
     }
-    Ok(())
+}
+
+/// The texts to sign. Refused where memory wants.
+fn texts_of<'w>(alloc: Global, waits: &'w [Waiting<'_, '_>]) -> Result<Vec<&'w [u8]>, StoreFault>
+    ensures texts { IfOk result (λ texts. map (λ text. text.now) texts.items
+        ≡ map (λ waiting. waiting.prepared.text.items) waits.now) }
+    ensures refused { IfErr result (λ fault. fault ≡ StoreFault.Memory) }
+{
+    let Ok(mut texts) = Vec::with_capacity(alloc, waits.len()) else {
+        return Err(StoreFault::Memory);
+    };
+    for waiting in waits {
+        texts.push_reserved(waiting.prepared.text.as_slice());
+    }
+    Ok(texts)
 }
 
 /// The reservations of what waits, as entries. Refused where memory wants.
@@ -122,57 +152,54 @@ fn entries_of<'w>(alloc: Global, waits: &'w [Waiting<'_, '_>]) -> Result<Vec<Ent
     Ok(entries)
 }
 
-/// Reserves all that waits in one commit.
-fn reserve_each<B: Book + Drop>(
+/// Reserves all that waits in one commit: their texts. All memory that is known to be needed for it is taken before.
+pub(crate) fn reserve_each<'w, B: Book + Drop>(
     store: &mut B,
     alloc: Global,
-    waits: &[Waiting<'_, '_>],
-) -> Result<(), StoreFault>
-    requires some { 0 < length waits.now }
-    ensures appends { Appends B.Standing (map Reserved (map waiting_view waits.now)) store.old store.new result }
+    waits: &'w [Waiting<'_, '_>],
+) -> Result<Vec<&'w [u8]>, StoreFault>
+    ensures commits { IsCommitted B.Standing (map Reserved (map waiting_view waits.now)) store.old store.new
+        (call_for result) }
     ensures refusals { IfErr result IsOfStorage }
+    ensures texts { IfOk result (λ texts. map (λ text. text.now) texts.items
+        ≡ map (λ waiting. waiting.prepared.text.items) waits.now) }
 {
+    if waits.is_empty() {
+        return Ok(Vec::new(alloc));
+    }
+    let texts = texts_of(alloc, waits)?;
     let entries = entries_of(alloc, waits)?;
-    store.append(&entries)
+    commit(store, &entries)?;
+    Ok(texts)
 }
 
-/// Judges each stamp and reserves all that waits in one commit. Where a call is refused nothing is reserved. The caller
-/// has taken the room for both lists.
-pub(crate) fn begin_each<'p, 'a, B: Book + Drop>(
-    store: &mut B,
-    alloc: Global,
-    batch: AskedBatch<'_, 'p, 'a>,
-    verdicts: &mut Vec<Option<Rule>>,
-    waits: &mut Vec<Waiting<'p, 'a>>,
-) -> Result<(), StampRefusal>
-    requires none_judged { verdicts.old.items ≡ [] }
-    requires none_waits { waits.old.items ≡ [] }
-    requires verdicts_room { length batch.asked.now ≤ vec_capacity verdicts.old }
-    requires waits_room { length batch.asked.now ≤ vec_capacity waits.old }
-    ensures honest { B.honest store.new → B.honest store.old }
-    ensures counted { B.fault_count store.new ≡ faults_after (outcome_of result) (B.fault_count store.old) }
-    ensures split { IfOk result (λ _. AreSplit (questions_view batch.entry.asked.now) verdicts.new.items
-        waits.new.items) }
-    ensures texts { IfOk result (λ _. AllByRecursion (HasText (settings_view batch.entry.settings)) waits.new.items) }
-    ensures unasked { IfOk result (λ _. AreJudgedUnasked (policy_view batch.entry.settings.policy.now)
-        (questions_view batch.entry.asked.now) verdicts.new.items) }
-    ensures judged { IfOk result (λ _. B.honest store.new → (b : History) → Stands B.Standing b store.old
-        → AreJudged (settings_view batch.entry.settings) (questions_view batch.entry.asked.now) verdicts.new.items
-        waits.new.items b) }
-    ensures reserved { IfOk result (λ _. B.honest store.new → (b : History) → Stands B.Standing b store.old
-        → Stands B.Standing (with_waiting waits.new.items b) store.new) }
-    ensures opened { IfOk result (λ _. B.honest store.new
-        → ((waits.new.items ≡ []) × LeavesAsBefore B.Standing store.old store.new) ⊎ B.is_open store.new) }
-    ensures refused { OnErr result ((b : History) → Stands B.Standing b store.old → Stands B.Standing b store.new) }
-    ensures left { IfErr result (λ refusal. B.honest store.new → (b : History) → Stands B.Standing b store.old
-        → (left : B.Left) → B.leaves store.new left
-        → B.leaves store.old left ⊎ IsReservedInDoubt B.Standing (settings_view batch.entry.settings)
-        (questions_view batch.entry.asked.now) verdicts.new.items waits.new.items refusal b left) }
+/// The rule by which a stamp is rejected once its reservation was refused: one that it fails, or rule 12.
+fn settle_one<B: Book + Drop>(store: &mut B, settings: Settings<'_>, asked: Asked<'_>) -> Rule
+    ensures judges { (reserving : Call) → (reserving ≡ Fine → ⊥) → JudgesOne B.Standing (settings_view settings.entry)
+        (question_view asked.entry) [] (judged.Fails result) store.old store.new }
 {
-    judge_each(store, alloc, batch, verdicts, waits)?;
-    if waits.is_empty() {
-        return Ok(());
+    match find(store, settings.policy, asked) {
+        Ok(Judgement::Fails(rule)) => rule,
+        Ok(Judgement::Allows(_planned)) => Rule::System,
+        Err(_) => Rule::System,
     }
-    reserve_each(store, alloc, waits).map_err(StampRefusal::Adding)?;
-    Ok(())
+}
+
+/// Judges each stamp anew once the commit of the reservations was refused: none waits. The caller has taken the room.
+pub(crate) fn settle_each<B: Book + Drop>(
+    store: &mut B,
+    batch: AskedBatch<'_, '_, '_>,
+    verdicts: &mut Vec<Option<Rule>>,
+)
+    requires verdicts_room { length batch.asked.now ≤ vec_capacity verdicts.old }
+    ensures judges { (reserving : Call) → (reserving ≡ Fine → ⊥) → JudgesEach B.Standing
+        (settings_view batch.entry.settings) (questions_view batch.entry.asked.now) verdicts.new.items [] store.old
+        store.new }
+    ensures many { length verdicts.new.items ≡ length batch.entry.asked.now }
+{
+    let AskedBatch { settings, asked } = batch;
+    verdicts.truncate(0);
+    for question in asked {
+        verdicts.push_reserved(Some(settle_one(store, settings, *question)));
+    }
 }

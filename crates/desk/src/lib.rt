@@ -8,6 +8,7 @@ mod batch_start;
 mod clock_facts;
 mod closed;
 mod commands;
+mod commit;
 mod completion;
 mod deposits;
 mod desk;

@@ -2,7 +2,7 @@ use Rattle.std.proofs.Common.{◌+◌, ◌∙◌, map, ap, arith}
 use Rattle.cms.specs.Signer.{signed_by}
 use Rattle.desk.specs.Answers.{reply_as}
 use Rattle.desk.specs.Calls.{settings_view}
-use Rattle.desk.specs.Written.{seal_view}
+use Rattle.desk.specs.Completions.{seal_view}
 use Rattle.desk.specs.WaitingStamps.{pending_in}
 use Rattle.desk.proofs.CompletionLemmas.{written_next}
 use Rattle.desk.proofs.completion.write_each.Goals as goal
@@ -17,10 +17,9 @@ loop-index-preserved c =
       room_for_seals = omega (arith, before.room_for_seals, put.room_for_seals);
       room_for_replies = omega (arith, before.room_for_replies, put.room_for_replies);
       written = written_next (pending_in (settings_view c.args.batch.settings)) signed_by c.args.batch.waits.now
-          c.args.answers.now
-          c.loop-index.index c.index-waits-index.result c.index-answers-index.result before.written.0
-          (map seal_view c.loop-index.written.seals.items) (map seal_view c.put.new.batch.seals.items)
-          (map reply_as c.loop-index.written.replies.items) (map reply_as c.put.new.batch.replies.items)
+          c.args.answers.now c.loop-index.index c.index-waits-index.result c.index-answers-index.result
+          (map seal_view c.loop-index.written.seals.items) (map seal_view c.put.new.written.seals.items)
+          (map reply_as c.loop-index.written.replies.items) (map reply_as c.put.new.written.replies.items)
           c.loop-index-test.true (omega (arith, c.loop-index-test.true, c.requires.as_many)) c.index-waits-index.is
-          c.index-answers-index.is before.written.1 put.written;
+          c.index-answers-index.is before.written put.written;
     }

@@ -1,10 +1,9 @@
-use Rattle.std.proofs.Common.{◌≡◌, ◌≤◌, List, length, map, take, vec_len}
+use Rattle.std.proofs.Common.{◌≡◌, ◌≤◌, length, map, take, vec_len}
 use Rattle.std.specs.Prelude.{vec_capacity}
 use Rattle.cms.specs.Signer.{signed_by}
 use Rattle.desk.specs.Answers.{reply_as}
 use Rattle.desk.specs.Calls.{settings_view}
-use Rattle.desk.specs.Written.{seal_view, AreWritten}
-use Rattle.desk.specs.Outcome.{Outcome}
+use Rattle.desk.specs.Completions.{seal_view, AreWritten}
 use Rattle.desk.specs.WaitingStamps.{pendings_in}
 use Rattle.desk.proofs.completion.write_each.Given as goal
 
@@ -14,7 +13,7 @@ invariant-loop-index l = record {
   many_replies : vec_len l.written.replies ≡ l.index;
   room_for_seals : length l.waits ≤ vec_capacity l.written.seals;
   room_for_replies : length l.waits ≤ vec_capacity l.written.replies;
-  written : (os : List Outcome) × AreWritten (pendings_in (settings_view l.settings) (take l.index l.waits))
-      (map signed_by (take l.index l.answers)) os (map seal_view l.written.seals.items)
+  written : AreWritten (pendings_in (settings_view l.settings) (take l.index l.waits))
+      (map signed_by (take l.index l.answers)) (map seal_view l.written.seals.items)
       (map reply_as l.written.replies.items);
 }
