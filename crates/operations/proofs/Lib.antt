@@ -2,4 +2,3 @@ pub mod CheckedStamps
 pub mod FileStores
 pub mod GoingOn
 pub mod InDatabases
-pub mod ReachedSigners

@@ -1,6 +1,7 @@
 -- A signer that was reached, whichever it is: it signs, counts and names its algorithm as that.
 use Rattle.std.specs.Prelude.{ℕ, List, Result}
-use Rattle.cms.specs.KeyedHash.{SignsByHash, keyed_hash_algorithm}
+use Rattle.cms.specs.KeyedHash.{SignsByHash, SendsNothing, keyed_hash_algorithm}
+use Rattle.cms.specs.Signer.{AwaitsInTurn}
 use Rattle.cms.specs.declared.signer.SignerFault.{SignerFault}
 use Rattle.operations.specs.declared.any_signer.AnySigner.{AnySigner}
 use Rattle.operations.specs.declared.any_signer.AnySigner.TheVariants.{Keyed, Session, Reconnecting}
@@ -12,6 +13,26 @@ module _ {S K : Type 0} (signs : S → List ℕ → Result (List ℕ) SignerFaul
   SignsAsAny (Session before) text answer (Session after) = signs before text answer after
   SignsAsAny (Reconnecting before) text answer (Reconnecting after) = signs_renewed before text answer after
   SignsAsAny _ text answer _ = ⊥
+
+module _ {S K : Type 0} (sent : S → List (List ℕ) → S → Type 0) (sent_renewed : K → List (List ℕ) → K → Type 0) where
+  abbrev pub SendsAsAny : AnySigner S K → List (List ℕ) → AnySigner S K → Type 0
+  SendsAsAny (Keyed before) texts (Keyed after) = SendsNothing before texts after
+  SendsAsAny (Session before) texts (Session after) = sent before texts after
+  SendsAsAny (Reconnecting before) texts (Reconnecting after) = sent_renewed before texts after
+  SendsAsAny _ texts _ = ⊥
+
+module _ {S K : Type 0}
+    (awaits : S → List (List ℕ) → List (Result (List ℕ) SignerFault) → List (List ℕ) → S → Type 0)
+    (awaits_renewed : K → List (List ℕ) → List (Result (List ℕ) SignerFault) → List (List ℕ) → K → Type 0) where
+  abbrev pub AwaitsAsAny : AnySigner S K → List (List ℕ) → List (Result (List ℕ) SignerFault) → List (List ℕ)
+      → AnySigner S K → Type 0
+  AwaitsAsAny (Keyed before) texts answers outstanding (Keyed after) =
+      AwaitsInTurn SignsByHash SendsNothing before texts answers outstanding after
+  AwaitsAsAny (Session before) texts answers outstanding (Session after) =
+      awaits before texts answers outstanding after
+  AwaitsAsAny (Reconnecting before) texts answers outstanding (Reconnecting after) =
+      awaits_renewed before texts answers outstanding after
+  AwaitsAsAny _ texts answers outstanding _ = ⊥
 
 module _ {S K : Type 0} (count : S → ℕ) (count_renewed : K → ℕ) where
   abbrev pub faults_of : AnySigner S K → ℕ

@@ -7,6 +7,7 @@ pub mod Judged
 pub mod Machine
 pub mod OverFiles
 pub mod AnySigner
+pub mod AnySignerLaws
 pub mod Signing
 pub mod Visits
 pub mod VoidStamp

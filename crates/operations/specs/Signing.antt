@@ -16,7 +16,7 @@ algorithm_of (Session address algorithm) = algorithm
 -- what is reached of a key holder: one session, or sessions of which another is opened where one was lost
 abbrev pub IsSession : {S K : Type 0} → Renewal → AnySigner S K → Type 0
 IsSession {S} {K} Never reached = (session : S) × (reached ≡ any.Session session)
-IsSession {S} {K} AfterLoss reached = (sessions : K) × (reached ≡ any.Reconnecting sessions)
+IsSession {S} {K} (AfterLoss told) reached = (sessions : K) × (reached ≡ any.Reconnecting sessions)
 
 -- what is reached: the stand-in as it is, or that
 abbrev pub IsOfKind : {S K : Type 0} → Signing → Renewal → AnySigner S K → Type 0

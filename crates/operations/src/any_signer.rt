@@ -21,9 +21,14 @@ pub type HostSigner<'a> = AnySigner<
 >;
 
 impl<S: Signer, K: Signer> Signer for AnySigner<S, K> {
-    ghost use Rattle.operations.specs.AnySigner.{algorithm_of, faults_of, SignsAsAny};
+    ghost use Rattle.operations.specs.AnySigner.{algorithm_of, faults_of, SignsAsAny, SendsAsAny, AwaitsAsAny};
+    ghost use Rattle.operations.specs.AnySignerLaws.{sends_nothing, sends_after, all_signed, all_sent};
 
     ghost signs = { SignsAsAny S.signs K.signs };
+
+    ghost sent = { SendsAsAny S.sent K.sent };
+
+    ghost awaits = { AwaitsAsAny S.awaits K.awaits };
 
     ghost fault_count = { faults_of S.fault_count K.fault_count };
 
@@ -37,11 +42,19 @@ impl<S: Signer, K: Signer> Signer for AnySigner<S, K> {
         }
     }
 
-    fn sign_each(&mut self, texts: &[&[u8]], answers: &mut Vec<Result<Vec<u8>, SignerFault>>) {
+    fn send(&mut self, texts: &[&[u8]]) {
         match self {
-            AnySigner::Keyed(signer) => signer.sign_each(texts, answers),
-            AnySigner::Session(signer) => signer.sign_each(texts, answers),
-            AnySigner::Reconnecting(signer) => signer.sign_each(texts, answers),
+            AnySigner::Keyed(signer) => signer.send(texts),
+            AnySigner::Session(signer) => signer.send(texts),
+            AnySigner::Reconnecting(signer) => signer.send(texts),
+        }
+    }
+
+    fn receive(&mut self, text: &[u8]) -> Result<Vec<u8>, SignerFault> {
+        match self {
+            AnySigner::Keyed(signer) => signer.receive(text),
+            AnySigner::Session(signer) => signer.receive(text),
+            AnySigner::Reconnecting(signer) => signer.receive(text),
         }
     }
 
@@ -60,4 +73,12 @@ impl<S: Signer, K: Signer> Signer for AnySigner<S, K> {
             AnySigner::Reconnecting(signer) => signer.faults(),
         }
     }
+
+    ghost unsent = { sends_nothing S.sent K.sent S.unsent K.unsent };
+
+    ghost sent_after = { sends_after S.sent K.sent S.sent_after K.sent_after };
+
+    ghost all_signed = { all_signed S.awaits K.awaits S.signs K.signs S.all_signed K.all_signed };
+
+    ghost all_sent = { all_sent S.awaits K.awaits S.sent K.sent S.all_sent K.all_sent };
 }

@@ -1,16 +1,19 @@
 //! How the stamps that the database at a path keeps are extracted and checked.
-ghost use Rattle.std.specs.Prelude.{◌≡◌, ◌⊎◌, true, false, map, IfOk, IfErr, OnOk, OnErr, string_bytes};
+ghost use Rattle.std.specs.Prelude.{◌≡◌, ◌⊎◌, ◌↔◌, true, false, map, IfOk, IfErr, IsTrue, OnOk, OnErr};
+ghost use Rattle.std.specs.Prelude.{◌++◌, ◌&&◌, string_bytes};
 ghost use Rattle.std.specs.Io.KnownBytes.{Appends};
 ghost use Rattle.audit.specs.Extract.{extract_text};
+ghost use Rattle.audit.specs.Intact.{IsIntact};
 ghost use Rattle.book.specs.History.{History, stamps_between};
 ghost use Rattle.book.specs.Identities.{identities};
+ghost use Rattle.book.specs.Rights.{deposit_with_stamp};
 ghost use Rattle.book.specs.Stands.{OnlyLooks, Stands};
 ghost use Rattle.book.specs.Values.{identity_view};
 ghost use Rattle.operations.specs.Audits.{Allows, BeginsExtract, Checks, ComesWhere, CountsAudit, CountsFaults};
 ghost use Rattle.operations.specs.Audits.{IsCutOff, IsExtractFault};
 ghost use Rattle.operations.specs.declared.audits.AuditFault.TheVariants.{Extract, Store};
 ghost use Rattle.operations.specs.Audits.{IsAudited, IsAuditOf, Leaves, TellsFailing, TellsSome, WritesExtract};
-ghost use Rattle.operations.specs.Audits.{failing_line};
+ghost use Rattle.operations.specs.Audits.{Deposit, Row, failing_line, failing_lines, failures_of};
 ghost use Rattle.operations.specs.InDatabases.{IsUnopenedAs};
 ghost use Rattle.operations.specs.OverFiles.{IsAuditedOver};
 
@@ -18,8 +21,8 @@ use crate::database::Database;
 use crate::database_files::DatabaseFiles;
 use crate::lifecycle::perform_at;
 use crate::operation::Operation;
-use audit::{ExtractFault, check_row, extract, write_octets};
-use book::{Book, IdentityRow, StampsBetween, StoreFault};
+use audit::{ExtractFault, check_deposit, check_row, extract, write_octets};
+use book::{Book, IdentityRow, StoreFault};
 use policy::{Account, Policy};
 use std::alloc::{AllocError, Global};
 use std::io::Write;
@@ -35,7 +38,7 @@ pub struct Inquiry<'a> {
     pub from: u64,
     /// The last serial number.
     pub to: u64,
-    /// Whether each stamp is checked as well.
+    /// Whether each stamp is checked as well, with its deposit.
     pub check: bool,
 }
 
@@ -86,10 +89,10 @@ impl<O: Write, E: Write> Operation<O, E> for Inquiry<'_> {
     }
 }
 
-/// Writes the extract of the stamps that the database keeps, as `audit::extract` does, and then, where that
-/// is asked, checks each stamp as `check_stamps` does: whether all agree. Refused with `Store` where the database can't
-/// be opened, and with `Extract` as `audit::extract`; nothing is checked then. Where the check is refused it is
-/// `Extract` for want of memory, and else `Store`; the whole extract is written then.
+/// Writes the extract of the stamps that the database keeps, as `audit::extract` does, and then, where that is asked,
+/// checks each stamp as `check_stamps` does: whether nothing fails. Refused with `Store` where the database can't be
+/// opened, and with `Extract` as `audit::extract`; nothing is checked then. Where the check is refused it is `Extract`
+/// for want of memory, and else `Store`; the whole extract is written then.
 pub fn audit<F: DatabaseFiles, O: Write, E: Write>(
     alloc: Global,
     database: Database<'_, F>,
@@ -131,8 +134,8 @@ fn audit_book<B: Book + Drop, O: Write, E: Write>(
     ensures whole { B.honest book.new → (b : History) → Stands B.Standing b book.old → OnOk result (Appends
         (O.contents output.old) (O.contents output.new) (extract_text inquiry.now.from inquiry.now.to b)) }
     ensures checked { B.honest book.new → (b : History) → Stands B.Standing b book.old → inquiry.now.check ≡ true
-        → IfOk result (Checks (identities b) (stamps_between inquiry.now.from inquiry.now.to b) (E.contents errors.old)
-        (E.contents errors.new)) }
+        → IfOk result (Checks (identities b) b (stamps_between inquiry.now.from inquiry.now.to b)
+        (E.contents errors.old) (E.contents errors.new)) }
     ensures allowed { IfOk result (λ _. Allows inquiry.now) }
     ensures extracted { OnOk result (WritesExtract (O.contents output.old) (O.contents output.new)) }
     ensures agreed { IfOk result (λ agree. agree ≡ true → E.contents errors.new ≡ E.contents errors.old) }
@@ -187,9 +190,10 @@ fn write_extract<B: Book + Drop, O: Write>(
 }
 
 /// Checks each stamp of the range from its octets, and writes a line `row N fails` for each whose octets don't say what
-/// its row and the identity of its serial number say, N being that number: whether there is none. Where a line can't be
-/// written the stamps after it aren't looked at. Refused with `Memory` and `Store`, where they are met; the lines that
-/// were written stand. The book changes nowhere, and no stamp is kept.
+/// its row and the identity of its serial number say, N being that number, and `deposit N fails` where its deposit isn't
+/// what was stamped: whether nothing fails. Where a line can't be written the stamps after it aren't looked at. Refused
+/// with `Memory` and `Store`, where they are met; the lines that were written stand. The book changes nowhere, and no
+/// stamp is kept.
 pub fn check_stamps<B: Book + Drop, E: Write>(
     alloc: Global,
     book: &mut B,
@@ -199,7 +203,7 @@ pub fn check_stamps<B: Book + Drop, E: Write>(
 ) -> Result<bool, ExtractFault>
     ensures looks { OnlyLooks B.Standing book.old book.new }
     ensures checked { B.honest book.new → (b : History) → Stands B.Standing b book.old
-        → IfOk result (Checks (identities b) (stamps_between from to b) (E.contents errors.old)
+        → IfOk result (Checks (identities b) b (stamps_between from to b) (E.contents errors.old)
         (E.contents errors.new)) }
     ensures agreed { IfOk result (λ agree. agree ≡ true → E.contents errors.new ≡ E.contents errors.old) }
     ensures failed { IfOk result (λ agree. agree ≡ false
@@ -230,7 +234,7 @@ fn check_against<B: Book + Drop, E: Write>(
 ) -> Result<bool, ExtractFault>
     ensures looks { OnlyLooks B.Standing book.old book.new }
     ensures checked { B.honest book.new → (b : History) → Stands B.Standing b book.old
-        → IfOk result (Checks (map identity_view identities.now) (stamps_between range.from range.to b)
+        → IfOk result (Checks (map identity_view identities.now) b (stamps_between range.from range.to b)
         (E.contents errors.old) (E.contents errors.new)) }
     ensures agreed { IfOk result (λ agree. agree ≡ true → E.contents errors.new ≡ E.contents errors.old) }
     ensures failed { IfOk result (λ agree. agree ≡ false
@@ -240,33 +244,90 @@ fn check_against<B: Book + Drop, E: Write>(
     ensures faults { CountsFaults result (B.fault_count book.old) (B.fault_count book.new) }
 {
     let mut agree = true;
-    let mut walk = StampsBetween::of(book, range.from, range.to);
-    while let Some(stamp) = walk.next()? {
-        if !check_row(&stamp, identities)? {
+    let mut from = range.from;
+    while let Some(stamp) = book.next_stamp(from, range.to)? {
+        let row = check_row(&stamp, identities)?;
+        let deposit = is_intact(book, stamp.serial)?;
+        let passes = are_both(row, deposit);
+        if !passes {
             agree = false;
-            if !tell(alloc, stamp.serial, errors)? {
+            if !tell(alloc, stamp.serial, row, deposit, errors)? {
                 return Ok(false);
             }
         }
+        from = stamp.serial + 1;
     }
     Ok(agree)
 }
 
-/// Writes the line of a stamp that fails: whether all of it is written.
-fn tell<E: Write>(alloc: Global, serial: u64, errors: &mut E) -> Result<bool, AllocError>
-    ensures whole { IfOk result (λ whole. whole ≡ true
-        → Appends (E.contents errors.old) (E.contents errors.new) (failing_line serial)) }
-    ensures cut { IfOk result (λ whole. whole ≡ false
-        → IsCutOff (E.contents errors.old) (E.contents errors.new) (failing_line serial)) }
-    ensures untold { OnErr result (E.contents errors.new ≡ E.contents errors.old) }
+fn are_both(one: bool, other: bool) -> bool
+    ensures { result ≡ (one && other) }
 {
-    let line = line_of(alloc, serial)?;
-    let taken = write_octets(errors, line.as_bytes());
-    Ok(taken == line.len())
+    one && other
 }
 
-fn line_of(alloc: Global, serial: u64) -> Result<String, AllocError>
-    ensures { IfOk result (λ line. string_bytes line ≡ failing_line serial) }
+/// Whether the deposit of a number is intact, or isn't there.
+fn is_intact<B: Book>(book: &mut B, number: u64) -> Result<bool, ExtractFault>
+    ensures looks { OnlyLooks B.Standing book.old book.new }
+    ensures value { B.honest book.new → (b : History) → Stands B.Standing b book.old
+        → IfOk result (λ yes. IsTrue yes ↔ IsIntact (deposit_with_stamp number b)) }
+    ensures refusals { IfErr result (λ e. (e ≡ ExtractFault.Memory) ⊎ (e ≡ ExtractFault.Store)) }
+    ensures faults { CountsFaults result (B.fault_count book.old) (B.fault_count book.new) }
+{
+    match book.deposit(number)? {
+        Some(kept) => Ok(check_deposit(&kept)),
+        None => Ok(true),
+    }
+}
+
+/// Writes the lines of what fails of a serial number, its row, its deposit or both: whether all of them is written.
+fn tell<E: Write>(
+    alloc: Global,
+    serial: u64,
+    row: bool,
+    deposit: bool,
+    errors: &mut E,
+) -> Result<bool, AllocError>
+    ensures whole { IfOk result (λ whole. whole ≡ true → Appends (E.contents errors.old) (E.contents errors.new)
+        (failing_lines (failures_of serial row deposit))) }
+    ensures cut { IfOk result (λ whole. whole ≡ false → IsCutOff (E.contents errors.old) (E.contents errors.new)
+        (failing_lines (failures_of serial row deposit))) }
+    ensures untold { OnErr result (E.contents errors.new ≡ E.contents errors.old) }
+{
+    let lines = lines_of(alloc, serial, row, deposit)?;
+    let taken = write_octets(errors, lines.as_bytes());
+    Ok(taken == lines.len())
+}
+
+/// These lines.
+fn lines_of(alloc: Global, serial: u64, row: bool, deposit: bool) -> Result<String, AllocError>
+    ensures { IfOk result (λ lines. string_bytes lines ≡ failing_lines (failures_of serial row deposit)) }
+{
+    match (row, deposit) {
+        (true, true) => Ok(String::new(alloc)),
+        (false, true) => row_line(alloc, serial),
+        (true, false) => deposit_line(alloc, serial),
+        (false, false) => both_lines(alloc, serial),
+    }
+}
+
+fn row_line(alloc: Global, serial: u64) -> Result<String, AllocError>
+    ensures { IfOk result (λ line. string_bytes line ≡ failing_line (Row serial)) }
 {
     format!(in alloc; "row {serial} fails\n")
+}
+
+fn deposit_line(alloc: Global, number: u64) -> Result<String, AllocError>
+    ensures { IfOk result (λ line. string_bytes line ≡ failing_line (Deposit number)) }
+{
+    format!(in alloc; "deposit {number} fails\n")
+}
+
+fn both_lines(alloc: Global, serial: u64) -> Result<String, AllocError>
+    ensures { IfOk result (λ lines. string_bytes lines ≡ failing_line (Row serial) ++ failing_line (Deposit serial)) }
+{
+    let mut lines = row_line(alloc, serial)?;
+    let others = deposit_line(alloc, serial)?;
+    lines.push_str(others.as_str())?;
+    Ok(lines)
 }

@@ -32,7 +32,10 @@ pub enum Renewal {
     /// One session is kept to the end.
     Never,
     /// Another is opened when the next signature is asked for.
-    AfterLoss,
+    AfterLoss {
+        /// Whether standard error tells of it.
+        told: bool,
+    },
 }
 
 impl<'a> Signing<'a> {
@@ -64,8 +67,8 @@ impl<'a> Signing<'a> {
             Signing::Keyed(signer) => Ok(AnySigner::Keyed(signer)),
             Signing::Session { address, algorithm } => match renewal {
                 Renewal::Never => Ok(AnySigner::Session(reach_once(rt, address, algorithm)?)),
-                Renewal::AfterLoss => Ok(AnySigner::Reconnecting(reach_again(
-                    rt, address, algorithm,
+                Renewal::AfterLoss { told } => Ok(AnySigner::Reconnecting(reach_again(
+                    rt, address, algorithm, told,
                 )?)),
             },
         }
@@ -86,18 +89,19 @@ fn reach_once<'a>(
     connect_signer(rt, address, limit, algorithm).or(Err(OperationFault::Unreached))
 }
 
-/// Sessions with the key holder, of which standard error tells. `Unreached` where there is none.
+/// Sessions with the key holder, of which standard error tells where they are to be told. `Unreached` where there is
+/// none.
 fn reach_again<'a>(
     rt: &'a HostRuntime,
     address: &'a str,
     algorithm: Algorithm,
+    told: bool,
 ) -> Result<KeyHolderSigner<'a, HostRuntime, Stderr>, OperationFault>
     ensures algorithm { IfOk result (λ signer. signer.algorithm ≡ algorithm) }
     ensures unused { IfOk result (λ signer. signer.faults ≡ 0) }
     ensures refusals { IfErr result IsUnreached }
 {
     let limit = Duration::from_secs(SIGNER_SECONDS);
-    connect_reconnecting(rt, address, limit, algorithm, rt.stderr()).or(Err(
-        OperationFault::Unreached,
-    ))
+    let notices = told.then(|| rt.stderr());
+    connect_reconnecting(rt, address, limit, algorithm, notices).or(Err(OperationFault::Unreached))
 }
