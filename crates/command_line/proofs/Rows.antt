@@ -196,6 +196,15 @@ pub serve_is_taken : AreTaken (serve_words (codes "--connections=4294967295"))
 unfolding clap_on_literals
 serve_is_taken = (refl, refl)
 
+pub serve_tells : AreTaken (serve_words (codes "--connections=0") ++ (codes "--tell" ∷ []))
+unfolding clap_on_literals
+serve_tells = (refl, refl)
+
+pub telling_takes_no_value : fault_of counter_command (serve_words (codes "--connections=0") ++ (codes "--tell=true" ∷ []))
+    ≡ TooManyValues ∷ []
+unfolding clap_on_literals
+telling_takes_no_value = refl
+
 pub connections_are_bounded : fault_of counter_command (serve_words (codes "--connections=4294967296"))
     ≡ ValueValidation ∷ []
 unfolding clap_on_literals

@@ -167,7 +167,8 @@ abbrev pub connections_option : Rule
 connections_option = required_option (codes "connections") (number_between 0 4294967295)
 
 abbrev pub serve_options : List Rule
-serve_options = desk_options ++ (listen_option ∷ connections_option ∷ [])
+serve_options =
+    desk_options ++ (listen_option ∷ connections_option ∷ optional_flag (codes "tell") ∷ [])
 
 abbrev pub audit_options : List Rule
 audit_options =

@@ -130,6 +130,7 @@ pub record StatesServe (rows : List Row) (words : ServeWords) : Type 0 where
   pub desk : StatesDesk rows words.desk
   pub listen : first_of (codes "listen") rows ≡ Some words.listen.now
   pub connections : StatesNumber rows (codes "connections") words.connections
+  pub tell : StatesFlag rows (codes "tell") words.tell
 
 pub record StatesAudit (rows : List Row) (words : AuditWords) : Type 0 where
   pub db : first_of (codes "db") rows ≡ Some words.db.now

@@ -353,6 +353,7 @@ fn serve_word<'a>(matches: &ArgMatches<'a>) -> Option<Word<'a>>
         desk,
         listen,
         connections: connections as u32,
+        tell: matches.get_flag("tell"),
     }))
 }
 

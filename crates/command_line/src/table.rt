@@ -322,6 +322,12 @@ pub const SERVE: SubcommandRow = SubcommandRow {
             required: true,
             help: "How many connections are served; their requests are answered one at a time",
         },
+        OptionRow {
+            name: "tell",
+            value: Value::Nothing,
+            required: false,
+            help: "Tells of the start, and of sessions with the signer, on standard error",
+        },
     ],
 };
 

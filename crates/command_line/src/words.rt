@@ -87,6 +87,8 @@ pub struct ServeWords<'a> {
     pub listen: &'a str,
     /// How many connections are served.
     pub connections: u32,
+    /// Whether the start, and sessions with the signer, are told on standard error.
+    pub tell: bool,
     ghost few: { connections < 2 ^ 32 },
 }
 

@@ -155,14 +155,11 @@ left_together : {B : Type 0} (g : Ghosts B) (s : Setting) (batch : Batch) (later
     → MayBeLeftAlong g s (at_once batch ∷ later) (batch.outcomes ∷ oss) b old last left
 left_together g s batch later oss b mid last old between left arrives batch_leaves (inl same) =
     elim (batch_leaves same.1) [
-      | inl thus ↦ elim thus [
-        | inl none ↦ inl (same.0 ∙ none.0, none.1)
-        | inr more ↦ elim more [
-          | inl holds ↦ inr (inl (subst (λ y. g.holds left y) (sym same.0) holds))
-          | inr doubt ↦ inr (inr (mid, (arrives, inl (same.0, inl doubt))))
-        ]
+      | inl none ↦ inl (same.0 ∙ none.0, none.1)
+      | inr more ↦ elim more [
+        | inl holds ↦ inr (inl (subst (λ y. g.holds left y) (sym same.0) holds))
+        | inr doubt ↦ inr (inr (mid, (arrives, inl (same.0, doubt))))
       ]
-      | inr doubt ↦ inr (inr (mid, (arrives, inl (same.0, inr doubt))))
     ]
 left_together g s batch later oss b mid last old between left arrives batch_leaves (inr (inl holds)) = inr (inl holds)
 left_together g s batch later oss b mid last old between left arrives batch_leaves (inr (inr doubt)) =

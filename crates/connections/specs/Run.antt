@@ -70,13 +70,12 @@ Arrives s (c ∷ cs) (o ∷ os) b last =
 Arrives s [] (o ∷ os) b last = ⊥
 Arrives s (c ∷ cs) [] b last = ⊥
 
--- A commit of a stretch was refused, of one command or of all its stamps, and nothing was added after it.
+-- A commit of a stretch was refused, of one command or of all its stamps together, and nothing was added after it.
 abbrev pub IsDoubtedBy : {B : Type 0} → (g : Ghosts B) → Setting → Stretch → List Outcome → History → History → g.Left
     → Type 0
 IsDoubtedBy g s (in_turn told) os b last left = IsDoubtedIn g s (commands_in (in_turn told)) os b last left
 IsDoubtedBy g s (at_once batch) os b last left =
-    IsDoubtedIn g s (stamps_for batch.asked) os b last left
-    ⊎ IsDoubtedTogether g s batch.asked batch.outcomes batch.reserving batch.sealing b last left
+    IsDoubtedTogether g s batch.asked batch.outcomes batch.reserving batch.sealing b last left
 
 -- The same in one of them, each under its outcomes.
 abbrev pub IsDoubtedAlong : {B : Type 0} → (g : Ghosts B) → Setting → List Stretch → List (List Outcome) → History

@@ -93,9 +93,9 @@ module _ {D X C S F O : Type 0} (m : Machine D X C Reading) (IsContinued : Optio
       cut_stops words is (left.in_extract cut refusal met tells silent) =
           in_extract words (asks_audit words is) cut refusal met
           (subst (λ f. Begins old new (fault_line f)) tells (untold silent))
-      cut_stops words is (left.in_check cut check stops serials told) =
-          in_check words (asks_audit words is) check cut serials fault stops
-          (begins_after old mid new (failing_lines serials) (fault_line fault) told line)
+      cut_stops words is (left.in_check cut check stops failures told) =
+          in_check words (asks_audit words is) check cut failures fault stops
+          (begins_after old mid new (failing_lines failures) (fault_line fault) told line)
 
       -- another word is, or a stream failed while its answer was written
       pub other_stops : IsNoAudit word → mid ≡ old

@@ -12,7 +12,7 @@ use Rattle.console.specs.Files.{ReadsText, Source}
 use Rattle.console.specs.Writes.{Begins}
 use Rattle.console.specs.declared.fault.Fault.{Fault}
 use Rattle.console.specs.declared.fault.Fault.TheVariants as program
-use Rattle.operations.specs.Audits.{extract_of, failing_lines}
+use Rattle.operations.specs.Audits.{Failure, extract_of, failing_lines}
 use Rattle.operations.specs.Machine.{Machine}
 use Rattle.operations.specs.OverFiles.{IsAuditedOver}
 use Rattle.operations.specs.declared.audits.Inquiry.{Inquiry}
@@ -25,7 +25,7 @@ use Rattle.policy.specs.View.{account_view, policy_view}
 abbrev pub StopsCheck : Fault → Type 0
 StopsCheck stop = (stop ≡ program.Audit extract.Memory) ⊎ (stop ≡ program.Store store.Database)
 
--- An extract, and whether all of its stamps agree, where these are checked.
+-- An extract, and whether nothing fails of its stamps and their deposits, where these are checked.
 pub record Extracts {D X C S F : Type 0} (m : Machine D X C Reading) (files : Source S F) (words : AuditWords)
     (out out' err err' : Option (List ℕ)) (agree : Bool) (IsWritten : List ℕ → Type 0) : Type 0 where
   -- the text of the policy file
@@ -65,11 +65,11 @@ pub record CutsExtract {S F : Type 0} (files : Source S F) (words : AuditWords) 
   pub written : IsWritten (extract_of stamps)
 
 -- What a refused audit leaves: nothing is written; or a beginning of the extract is; or the whole of it, and lines of
--- the stamps that failed before its check was refused.
+-- what failed before its check was refused.
 pub data LeavesAudit {S F : Type 0} (files : Source S F) (words : AuditWords) (out out' err err' : Option (List ℕ))
     (fault : Fault) : Type 0 where
   nothing : out' ≡ out → err' ≡ err → LeavesAudit files words out out' err err' fault
   in_extract : CutsExtract files words (Begins out out') → (refusal : ExtractFault) → IsMet refusal
       → fault ≡ program.Audit refusal → err' ≡ err → LeavesAudit files words out out' err err' fault
   in_check : CutsExtract files words (Appends out out') → words.check ≡ true → StopsCheck fault
-      → (serials : List ℕ) → Appends err err' (failing_lines serials) → LeavesAudit files words out out' err err' fault
+      → (failures : List Failure) → Appends err err' (failing_lines failures) → LeavesAudit files words out out' err err' fault

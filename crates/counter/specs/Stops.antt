@@ -18,7 +18,7 @@ use Rattle.console.specs.declared.fault.InputFault.TheVariants.{Failed}
 use Rattle.counter.specs.Does.{Does}
 use Rattle.counter.specs.Extract.{CutsExtract, Extracts, StopsCheck}
 use Rattle.counter.specs.Streams.{Streams, begun}
-use Rattle.operations.specs.Audits.{TellsSome, failing_lines}
+use Rattle.operations.specs.Audits.{Failure, TellsSome, failing_lines}
 use Rattle.operations.specs.Machine.{Machine}
 use Rattle.operations.specs.declared.void_stamp.Floor.{Floor}
 
@@ -41,12 +41,12 @@ pub data Stops {D X C S F O : Type 0} (m : Machine D X C Reading) (IsContinued :
       → CutsExtract files words (Begins (s.contents s.output) (s.contents s.output_after))
       → (refusal : ExtractFault) → IsMet refusal
       → Begins s.errors s.errors_after (fault_line (program.Audit refusal)) → Stops m IsContinued files texts s
-  -- the extract is written, and lines of stamps that fail, if any; then its check is refused
+  -- the extract is written, and lines of what fails, if anything; then its check is refused
   in_check : (words : AuditWords) → Asks texts (Audit words) → words.check ≡ true
       → CutsExtract files words (Appends (s.contents s.output) (s.contents s.output_after))
-      → (serials : List ℕ) → (fault : Fault) → StopsCheck fault
-      → Begins s.errors s.errors_after (failing_lines serials ++ fault_line fault) → Stops m IsContinued files texts s
-  -- the extract is written, and lines of the stamps that fail its check, of which there is one
+      → (failures : List Failure) → (fault : Fault) → StopsCheck fault
+      → Begins s.errors s.errors_after (failing_lines failures ++ fault_line fault) → Stops m IsContinued files texts s
+  -- the extract is written, and lines of what fails its check, of which there is one
   failing : (words : AuditWords) → Asks texts (Audit words) → words.check ≡ true
       → Extracts m files words (s.contents s.output) (s.contents s.output_after) s.errors s.errors_after false
       (Appends (s.contents s.output) (s.contents s.output_after))

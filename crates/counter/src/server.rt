@@ -31,6 +31,8 @@ struct Serving<'a> {
     rt: &'a HostRuntime,
     address: &'a str,
     connections: u32,
+    /// Whether it is told that connections are taken.
+    tell: bool,
     /// The octets of the database when it was opened, if they are known.
     octets: Option<u64>,
     /// When that began, if the clock tells.
@@ -67,7 +69,9 @@ impl DeskOperation<(), ()> for Serving<'_> {
         let mut clock = SystemClock::new(rt);
         match Listening::new(rt, rt, &listener, limit, self.octets) {
             Ok(mut listening) => {
-                tell_listening(rt, &listener, self.address, self.begun);
+                if self.tell {
+                    tell_listening(rt, &listener, self.address, self.begun);
+                }
                 let SignedDesk { desk, signer } = signed;
                 match serve_connections(
                     &mut listening,
@@ -94,8 +98,8 @@ fn connection_limit() -> Duration
 
 /// Serves HTTP connections at an address; readings are the machine's clock's. Connections are read side by side, and
 /// requests answered one at a time; one that fails counts too. The files are read first, then the database is opened,
-/// the key holder reached, and the address listened on. Of the process's streams it writes standard error alone, where
-/// it tells of its start and of lost sessions with the key holder.
+/// the key holder reached, and the address listened on. Of the process's streams it writes standard error alone, and
+/// that only where the words ask it to tell of its start and of lost sessions with the key holder.
 ///
 /// Refused as `read_files` and `perform_at_desk`, with `input` 6 where the address can't be listened on or the system
 /// can't wait for several connections at once, and with `input` 5 where the clock fails; those that were served before
@@ -133,7 +137,7 @@ pub fn serve<F: Start + Drop, S: FileSource + AllocGlobal>(
         signers: HostSigners {
             rt,
             signing,
-            renewal: Renewal::AfterLoss,
+            renewal: Renewal::AfterLoss { told: words.tell },
         },
     };
     let octets = octets_at(rt, words.desk.db);
@@ -141,10 +145,13 @@ pub fn serve<F: Start + Drop, S: FileSource + AllocGlobal>(
         rt,
         address: words.listen,
         connections: words.connections,
+        tell: words.tell,
         octets,
         begun: Instant::now(rt).ok(),
     };
-    tell_opening(rt, octets);
+    if words.tell {
+        tell_opening(rt, octets);
+    }
     match perform_at_desk(rt.alloc(), desk, serving, &mut (), &mut ()) {
         Ok(done) => answer_of(done),
         Err(fault) => Err(fault_of(fault)),
