@@ -1,7 +1,7 @@
-//! Signers: the stand-in, one that fails at chosen calls, and a key holder over frames.
+//! Signers: the stand-in, one that fails at chosen calls, and a key holder over frames, asked in turn or ahead.
 use crate::vectors::ends::{Reader, Writer, reader_of, writer_of};
 use crate::vectors::tokens::algorithm_of;
-use cms::{CmsFault, FramedSigner, KeyedHash, Signer, SignerFault};
+use cms::{CmsFault, FramedSigner, KeyedHash, Pipeline, Signer, SignerFault};
 use counter_fakes::FailingSigner;
 use std::alloc::{AllocError, Global};
 use transcript::{Pieces, Printer, Words};
@@ -73,11 +73,13 @@ fn sign_failing(alloc: Global, printer: Printer<'_>, words: Words<'_>) -> Result
     Ok(())
 }
 
-/// The same signer signs the others together, and tells at the end how many faults there were.
-fn sign_together(alloc: Global, printer: Printer<'_>, words: Words<'_>) -> Result<(), AllocError> {
+/// The octets of the names.
+fn texts_of<'n>(
+    alloc: Global,
+    printer: Printer<'n>,
+    words: Words<'_>,
+) -> Result<Vec<&'n [u8]>, AllocError> {
     let mut words = words;
-    let chosen = chosen_of(alloc, words.next())?;
-    let key = printer.names.octets(words.next());
     let mut texts = Vec::new(alloc);
     for _ in 0..words.rest.len() {
         let name = words.next();
@@ -86,6 +88,15 @@ fn sign_together(alloc: Global, printer: Printer<'_>, words: Words<'_>) -> Resul
         }
         texts.push(printer.names.octets(name))?;
     }
+    Ok(texts)
+}
+
+/// The same signer signs the others together, and tells at the end how many faults there were.
+fn sign_together(alloc: Global, printer: Printer<'_>, words: Words<'_>) -> Result<(), AllocError> {
+    let mut words = words;
+    let chosen = chosen_of(alloc, words.next())?;
+    let key = printer.names.octets(words.next());
+    let texts = texts_of(alloc, printer, words)?;
     let mut answers = Vec::with_capacity(alloc, texts.len())?;
     match stand_in(alloc, key) {
         Ok(behind) => {
@@ -102,6 +113,26 @@ fn sign_together(alloc: Global, printer: Printer<'_>, words: Words<'_>) -> Resul
     Ok(())
 }
 
+/// Sends texts ahead of the answers, and takes these up to the first that fails.
+fn ask_ahead<S: Pipeline>(printer: Printer<'_>, signer: &mut S, texts: &[&[u8]]) {
+    if texts.is_empty() {
+        return;
+    }
+    match signer.send_ahead(texts) {
+        Ok(rooms) => {
+            for room in rooms {
+                let answer = signer.receive_ahead(room);
+                tell_answer(printer, &answer);
+                if answer.is_err() {
+                    break;
+                }
+            }
+        }
+        Err(fault) => printer.tell(&fault),
+    }
+    printer.number("faults", signer.faults());
+}
+
 fn framed<'e, 'r, 'i>(
     alloc: Global,
     reader: &'e mut Reader<'r, 'i>,
@@ -112,11 +143,13 @@ fn framed<'e, 'r, 'i>(
 }
 
 /// A key holder over frames signs, whose reader gives and whose writer takes so many octets at a time: the words are
-/// those of both, and then names. Tells what was written, what wasn't read, and how often either end was called.
+/// those of both, and then names, whose octets it is asked for one by one, or sent ahead. Tells what was written, what
+/// wasn't read, and how often either end was called.
 fn sign_framed(
     alloc: Global,
     printer: Printer<'_>,
     size: usize,
+    is_ahead: bool,
     words: Words<'_>,
 ) -> Result<(), AllocError> {
     let mut words = words;
@@ -127,7 +160,13 @@ fn sign_framed(
     let mut reader = reader_of(alloc, &mut input, &mut words)?;
     let mut writer = writer_of(alloc, size, &mut words)?;
     match framed(alloc, &mut reader, &mut writer) {
-        Ok(mut signer) => sign_all(printer, &mut signer, words),
+        Ok(mut signer) => {
+            if is_ahead {
+                ask_ahead(printer, &mut signer, &texts_of(alloc, printer, words)?);
+            } else {
+                sign_all(printer, &mut signer, words);
+            }
+        }
         Err(fault) => printer.tell(&fault),
     }
     printer.number("reads", reader.calls);
@@ -150,8 +189,9 @@ pub fn call(alloc: Global, printer: Printer<'_>, words: Words<'_>) -> Result<(),
         "together" => sign_together(alloc, printer, words),
         "pieces" => {
             let size = words.number() as usize;
-            sign_framed(alloc, printer, size, words)
+            sign_framed(alloc, printer, size, false, words)
         }
-        _ => sign_framed(alloc, printer, usize::MAX, words),
+        "ahead" => sign_framed(alloc, printer, usize::MAX, true, words),
+        _ => sign_framed(alloc, printer, usize::MAX, false, words),
     }
 }

@@ -43,7 +43,14 @@ fn keep(alloc: Global, texts: &mut Vec<Vec<u8>>, text: &[u8]) -> Result<(), Allo
 }
 
 impl<S: Signer> Signer for NotingSigner<S> {
+    ghost use Rattle.cms.specs.Signer.{AwaitsInTurn};
+
     ghost signs = { λ before text answer after. S.signs before.signer text answer after.signer };
+
+    ghost sent = { λ before texts after. S.sent before.signer texts after.signer };
+
+    ghost awaits = { AwaitsInTurn (λ before text answer after. S.signs before.signer text answer after.signer)
+        (λ before texts after. S.sent before.signer texts after.signer) };
 
     ghost fault_count = { λ signer. S.fault_count signer.signer };
 
@@ -56,6 +63,12 @@ impl<S: Signer> Signer for NotingSigner<S> {
         self.signer.sign(text)
     }
 
+    fn send(&mut self, _texts: &[&[u8]]) {}
+
+    fn receive(&mut self, text: &[u8]) -> Result<Vec<u8>, SignerFault> {
+        self.sign(text)
+    }
+
     fn algorithm(&self) -> &Algorithm {
         self.signer.algorithm()
     }
@@ -63,4 +76,14 @@ impl<S: Signer> Signer for NotingSigner<S> {
     fn faults(&self) -> u64 {
         self.signer.faults()
     }
+
+    ghost unsent = { λ x texts. S.unsent x.signer texts };
+
+    ghost sent_after = { λ x y z texts others first second.
+        S.sent_after x.signer y.signer z.signer texts others first second };
+
+    ghost all_signed = { λ x y texts answers awaits. awaits.signed };
+
+    ghost all_sent = { λ x y texts answers outstanding awaits.
+        S.sent_after x.signer y.signer y.signer texts outstanding awaits.went_out (S.unsent y.signer outstanding) };
 }
