@@ -93,27 +93,39 @@ bool is_over(const struct certificate *certificate)
     return seconds_now() >= certificate->end;
 }
 
-bool print_algorithm(const struct certificate *certificate)
+/* sha256WithRSAEncryption with NULL (RFC 4055 5) */
+static const uint8_t RSA_ALGORITHM[] = {0x30, 0x0d, 0x06, 0x09, 0x2a, 0x86, 0x48, 0x86, 0xf7, 0x0d, 0x01, 0x01, 0x0b,
+    0x05, 0x00};
+/* id-RSASSA-PSS with id-sha256, id-mgf1 with id-sha256, and a salt of 32 octets (RFC 4055 3.1) */
+static const uint8_t PSS_ALGORITHM[] = {0x30, 0x41, 0x06, 0x09, 0x2a, 0x86, 0x48, 0x86, 0xf7, 0x0d, 0x01, 0x01, 0x0a,
+    0x30, 0x34, 0xa0, 0x0f, 0x30, 0x0d, 0x06, 0x09, 0x60, 0x86, 0x48, 0x01, 0x65, 0x03, 0x04, 0x02, 0x01, 0x05, 0x00,
+    0xa1, 0x1c, 0x30, 0x1a, 0x06, 0x09, 0x2a, 0x86, 0x48, 0x86, 0xf7, 0x0d, 0x01, 0x01, 0x08, 0x30, 0x0d, 0x06, 0x09,
+    0x60, 0x86, 0x48, 0x01, 0x65, 0x03, 0x04, 0x02, 0x01, 0x05, 0x00, 0xa2, 0x03, 0x02, 0x01, 0x20};
+/* ecdsa-with-SHA256 without parameters (RFC 5758 3.2) */
+static const uint8_t ECDSA_ALGORITHM[] = {0x30, 0x0a, 0x06, 0x08, 0x2a, 0x86, 0x48, 0xce, 0x3d, 0x04, 0x03, 0x02};
+
+static bool print(const uint8_t *octets, size_t length)
 {
-    enum key_kind kind = kind_of_key(X509_get0_pubkey(certificate->x509));
-    if (kind == OTHER_KEY) {
-        report("the certificate's key is neither RSA nor ECDSA on P-256");
-        return false;
-    }
-    X509_ALGOR *algorithm = X509_ALGOR_new();
-    uint8_t *octets = NULL;
-    int length = -1;
-    if (algorithm) {
-        X509_ALGOR_set0(algorithm, OBJ_nid2obj(kind == RSA_KEY ? NID_sha256WithRSAEncryption : NID_ecdsa_with_SHA256),
-            kind == RSA_KEY ? V_ASN1_NULL : V_ASN1_UNDEF, NULL);
-        length = i2d_X509_ALGOR(algorithm, &octets);
-    }
-    bool is_written = length > 0 && fwrite(octets, (size_t)length, 1, stdout) == 1 && fflush(stdout) == 0;
+    bool is_written = fwrite(octets, length, 1, stdout) == 1 && fflush(stdout) == 0;
     if (!is_written)
         report("the algorithm can't be written");
-    OPENSSL_free(octets);
-    X509_ALGOR_free(algorithm);
     return is_written;
+}
+
+bool print_algorithm(const struct certificate *certificate)
+{
+    switch (kind_of_key(X509_get0_pubkey(certificate->x509))) {
+    case RSA_KEY:
+        return print(RSA_ALGORITHM, sizeof RSA_ALGORITHM);
+    case PSS_KEY:
+        return print(PSS_ALGORITHM, sizeof PSS_ALGORITHM);
+    case P256_KEY:
+    case P384_KEY:
+        return print(ECDSA_ALGORITHM, sizeof ECDSA_ALGORITHM);
+    default:
+        report("the certificate's key is neither RSA for SHA-256 nor ECDSA on P-256 or P-384");
+        return false;
+    }
 }
 
 void free_certificate(struct certificate *certificate)

@@ -32,8 +32,7 @@ time_t seconds_now(void);
 /* Whether it isn't valid any more. */
 bool is_over(const struct certificate *certificate);
 
-/* Writes the AlgorithmIdentifier of the signatures by its key, as DER, to standard output: sha256WithRSAEncryption
- * with NULL (RFC 4055 5), or ecdsa-with-SHA256 without parameters (RFC 5758 3.2). A fault is told. */
+/* Writes the AlgorithmIdentifier of the signatures by its key, as DER, to standard output. A fault is told. */
 bool print_algorithm(const struct certificate *certificate);
 
 void free_certificate(struct certificate *certificate);

@@ -13,7 +13,7 @@
 /* what the counter takes for a signature */
 enum { MOST_SIGNATURE_OCTETS = 4096 };
 
-enum key_kind { OTHER_KEY, RSA_KEY, P256_KEY };
+enum key_kind { OTHER_KEY, RSA_KEY, PSS_KEY, P256_KEY, P384_KEY };
 
 struct key {
     EVP_PKEY *own;
@@ -23,7 +23,8 @@ struct key {
     bool is_in_device;
 };
 
-enum key_kind kind_of_key(const EVP_PKEY *key);
+/* One for RSA-PSS with another hash than SHA-256, or with a longer salt, is of another kind. */
+enum key_kind kind_of_key(EVP_PKEY *key);
 
 /* How it is called in a line of the log. */
 const char *name_of_kind(enum key_kind kind);
@@ -39,8 +40,8 @@ bool is_key_of(struct key *key, X509 *certificate, int least_rsa_bits);
 /* How many octets a signature has at most. */
 size_t signature_octets(const struct key *key);
 
-/* Signs the text with SHA-256, by PKCS #1 v1.5 or ECDSA, and verifies the signature; answers how many octets that has,
- * 0 after a fault, which is told. There has to be room for as many as a signature has. */
+/* Signs the text with SHA-256, by PKCS #1 v1.5, RSA-PSS or ECDSA, and verifies the signature; answers how many octets
+ * that has, 0 after a fault, which is told. There has to be room for as many as a signature has. */
 size_t sign(const struct key *key, const uint8_t *text, size_t length, uint8_t *signature, size_t room);
 
 /* Frees it, and ends what its device was opened with. */

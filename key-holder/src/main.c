@@ -19,7 +19,7 @@ static enum status listen_and_serve(const struct options *options, struct servic
         return FAULT;
     enum status status = FAULT;
     if (!service->has_peer || !is_tcp(&listener) || tells_of_tcp(listener.socket)) {
-        const EVP_PKEY *key = service->key->own;
+        EVP_PKEY *key = service->key->own;
         report("signs with a key of %s, %d bits", name_of_kind(kind_of_key(key)), EVP_PKEY_get_bits(key));
         status = serve(&listener, service);
     }
