@@ -146,6 +146,18 @@ export function integer(number) {
   return written(TAGS.integer, Uint8Array.from(octets[0] < 0x80 ? octets : [0, ...octets]));
 }
 
+const BASE64 = "[A-Za-z0-9+/=\\s]+";
+
+const ofBase64 = (text) => Uint8Array.from(atob(text.replace(/\s/g, "")), (one) => one.charCodeAt(0));
+
+// What a file has in PEM under a label (RFC 7468), or whatever it has, in base 64 alone too.
+export function readPem(octets, label = "[A-Z0-9 ]+") {
+  const text = new TextDecoder().decode(octets);
+  const blocks = Array.from(text.matchAll(new RegExp(`-----BEGIN ${label}-----(${BASE64})-----END`, "g")));
+  if (blocks.length) return blocks.map(([, block]) => ofBase64(block));
+  return new RegExp(`^${BASE64}$`).test(text) ? [ofBase64(text)] : [];
+}
+
 // Whether a text is an object identifier: X.690 8.19 and X.660 say which numbers may come first.
 export function isOid(text) {
   return /^(?:[01]\.(?:\d|[1-3]\d)|2\.(?:0|[1-9]\d*))(?:\.(?:0|[1-9]\d*))*$/.test(text);

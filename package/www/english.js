@@ -1,20 +1,31 @@
 // What the page says in English, besides what stands in index.html.
 export const english = {
   "account.some": "Asking with your key",
+  "account.named": "Asking as {name}",
   "account.good": "This is an account's key. It is used from now on.",
   "account.fault": "A key has only letters, digits and signs of ASCII here.",
   "account.forgotten": "No key is used from now on.",
   "again": "Try again",
   "audit.asking": "Asking …",
   "audit.count": "{count} stamps, {shown} of them here",
+  "cancel": "Cancel",
+  "chain.led": "A chain of certificates leads from it to {name}, a root that this page was set up with.",
+  "check.alone": "This is what the token says. With its file, it can be checked whether it fits.",
   "check.algorithm": "The token's hash is by {algorithm}, which this page doesn't compute.",
-  "check.bad": "This token isn't this file's.",
-  "check.bad.signature": "This token isn't to be trusted.",
+  "check.bad": "This token isn't to be trusted.",
+  "check.announced": "{name}: {what}",
   "check.both": "{file} and {token}",
+  "check.cancelled": "Cancelled. Nothing was checked.",
   "check.fits": "The token is for exactly this file.",
   "check.good": "File and token belong together.",
+  "check.lonely": "No token of this name was among the files.",
+  "check.lonely.announced": "Without a token: {names}",
   "check.malformed": "{name} is no time-stamp token, or one that this page can't read.",
   "check.rejection": "This reply has no token. The request was refused: {text}",
+  "check.one": "{token}",
+  "check.swapped": "The two were swapped: {token} is the token.",
+  "check.warn": "It fits the file. Who signed it isn't known here.",
+  "check.unfit.heading": "This token isn't this file's.",
   "check.unfit": "The file's hash by {algorithm} isn't the token's: it is another file, or it was changed.",
   "copied": "Copied",
   "copy": "Copy",
@@ -27,6 +38,8 @@ export const english = {
   "download": "Save {name}",
   "fault": "This page failed. Load it again.",
   "file.unreadable": "The file can't be read, or was changed meanwhile.",
+  "hash.begun": "Hashing …",
+  "hash.done": "Hashing: {percent} ({done} of {size})",
   "list.count": "{count} of {all} deposits",
   "list.none": "There is none yet.",
   "list.open": "Open",
@@ -93,13 +106,17 @@ export const english = {
   "rule.10": "Rule 10: the server's clock isn't known well enough at present. Try again later.",
   "rule.11": "Rule 11: your account's quota of today is used up. It begins anew at midnight UTC.",
   "rule.12": "Rule 12: the server's database or signer doesn't answer at present. Try again later.",
+  "site.certificates": "Certificates to save",
+  "site.contact": "Contact",
+  "site.operator": "Operator",
+  "site.policy": "Policy",
   "signature.known": "Signed by {name}, whose certificate this page was set up with.",
+  "signature.namesake":
+    "The signature fits a certificate of the name {name}, which is none of those of this name that this page was set " +
+    "up with. Anybody can make such a one: ask those whose name it is.",
   "signature.other":
     "The signature fits the certificate of {name}, which is none of those that this page was set up with. Whether " +
-    "it is to be trusted, this page doesn't check: see below.",
-  "signature.right":
-    "The signature fits the certificate of {name}. Whether that one is to be trusted, this page doesn't " +
-    "check: see below.",
+    "it is to be trusted isn't known here.",
   "signature.unknown.algorithm": "The signature is of a kind that this page doesn't check: see below.",
   "signature.unknown.certificate":
     "The signature wasn't checked: the token has no certificate, and this page knows none that fits. See below.",
@@ -107,17 +124,18 @@ export const english = {
   "signature.wrong.contents": "The signature isn't over this token's contents.",
   "signature.wrong.signature": "The signature is wrong.",
   "signature.wrong.validity": "The certificate of {name} wasn't valid at the token's time.",
-  "stamp.announced": "{name}: token given at {time}",
+  "stamp.announced": "{name}: {what}",
   "stamp.asking": "Asking for the token …",
-  "stamp.cancel": "Cancel",
-  "stamp.cancelled": "Cancelled. Nothing was asked for.",
-  "stamp.done": "Hashing: {done} of {size}",
-  "stamp.failed": "{name}: no token",
+  "stamp.cancelled": "Cancelled. There is no token.",
+  "stamp.count": "{count} of {all} files have their token.",
   "stamp.fits": "The token is for this file and this request: hash and nonce are the ones that were sent.",
   "stamp.fits.policy":
     "The token is for this file and this request: hash, nonce and policy are the ones that were sent.",
-  "stamp.given": "Token given at {time}",
-  "stamp.policy.fault": "This is no object identifier, such as 2.999.1.",
+  "stamp.given.good": "Token given at {time}",
+  "stamp.given.warn": "Token given at {time}. Who signed it isn't known here.",
+  "stamp.more": "What it says, and how it is verified",
+  "stamp.often": "The server takes only so many requests at a time. It is asked again in {seconds} s.",
+  "stamp.policy.own": "your account's own",
   "stamp.waiting": "Waits for the files before it.",
   "state.asked": "As of {time}",
   "state.calibration": "Calibration",
@@ -134,11 +152,13 @@ export const english = {
   "state.serial": "Last serial number",
   "state.signer": "Faults of the signer",
   "state.store": "Faults of the database",
+  "unchecked": "Not checked here: whether the certificate was revoked.",
+  "unchecked.chain": "Not checked here: whether the certificate was revoked, and its chain up to a root.",
+  "unchecked.unled":
+    "Not checked here: whether the certificate was revoked. No chain leads from it to a root that this page was set " +
+    "up with.",
   "verify.note":
-    "This page checks no chain of certificates, no revocation and no usage. OpenSSL does, with the " +
-    "certificate of the issuing authority in ca.pem, which you take from where you trust:",
+    "In a folder with the file, the token and {files}, these lines check the chain too. Where certificates are " +
+    "offered, they are at the foot of this page; ca.pem you compare with one from where you trust:",
   "verify.title": "Verify it with OpenSSL",
-  "verify.untrusted":
-    "The token has no certificate: OpenSSL needs the authority's in tsa.pem, and that of its issuer in " +
-    "ca.pem, from where you trust:",
 };

@@ -5,6 +5,7 @@ export const german = {
   "account.forgotten": "Ab jetzt wird kein Schlüssel benutzt.",
   "account.good": "Dieser Schlüssel gehört einem Konto. Ab jetzt wird er benutzt.",
   "account.key": "Ihr Schlüssel",
+  "account.named": "Gefragt wird als {name}",
   "account.none": "Ohne Schlüssel: gefragt wird wie von jedermann",
   "account.note":
     "Er bleibt im Speicher dieses Fensters und geht mit Anfragen nur an diesen Server. Wird das Fenster " +
@@ -18,21 +19,33 @@ export const german = {
   "audit.show": "Zeigen",
   "audit.title": "Auszug für Prüfer",
   "audit.to": "bis",
+  "cancel": "Abbrechen",
+  "chain.led":
+    "Eine Kette von Zertifikaten führt von ihm zu {name}, einer Wurzel, mit der diese Seite eingerichtet ist.",
+  "check.alone": "Das sagt das Token. Ob es passt, lässt sich mit seiner Datei prüfen.",
   "check.algorithm": "Der Hash des Tokens ist mit {algorithm} gebildet, das diese Seite nicht berechnet.",
-  "check.bad": "Dieses Token gehört nicht zu dieser Datei.",
-  "check.bad.signature": "Diesem Token ist nicht zu trauen.",
+  "check.bad": "Diesem Token ist nicht zu trauen.",
+  "check.announced": "{name}: {what}",
   "check.both": "{file} und {token}",
-  "check.drop": "Oder ziehen Sie beide hierher.",
+  "check.cancelled": "Abgebrochen. Geprüft wurde nichts.",
+  "check.drop":
+    "Oder ziehen Sie sie hierher, auch mehrere: Gepaart werden sie nach ihren Namen, wie plan.pdf und plan.pdf.tsr.",
   "check.file": "Die gestempelte Datei",
   "check.fits": "Das Token gilt für genau diese Datei.",
   "check.good": "Datei und Token gehören zusammen.",
-  "check.intro": "Beide bleiben in diesem Browser.",
+  "check.intro": "Sie bleiben in diesem Browser.",
+  "check.lonely": "Unter den Dateien war kein Token dieses Namens.",
+  "check.lonely.announced": "Ohne Token: {names}",
   "check.malformed": "{name} ist kein Zeitstempel-Token, oder eines, das diese Seite nicht lesen kann.",
   "check.rejection": "Diese Antwort enthält kein Token. Die Anfrage wurde abgelehnt: {text}",
-  "check.title": "Datei und Token prüfen",
-  "check.token": "Ihr Token: eine Antwort (.tsr) oder ein Token allein",
+  "check.one": "{token}",
+  "check.swapped": "Die beiden waren vertauscht: {token} ist das Token.",
+  "check.title": "Dateien und ihre Token prüfen",
+  "check.token": "Ihr Token: eine Antwort (.tsr) oder ein Token allein, auch in PEM oder Base64",
   "check.unfit":
     "Der Hash der Datei mit {algorithm} ist nicht der des Tokens: Es ist eine andere Datei, oder sie wurde verändert.",
+  "check.unfit.heading": "Dieses Token gehört nicht zu dieser Datei.",
+  "check.warn": "Es passt zur Datei. Wer es unterzeichnet hat, ist hier nicht bekannt.",
   "close": "Schließen",
   "copied": "Kopiert",
   "copy": "Kopieren",
@@ -55,6 +68,8 @@ export const german = {
   "download": "{name} speichern",
   "fault": "Diese Seite hat versagt. Laden Sie sie neu.",
   "file.unreadable": "Die Datei lässt sich nicht lesen oder wurde inzwischen verändert.",
+  "hash.begun": "Hash wird gebildet …",
+  "hash.done": "Hash wird gebildet: {percent} ({done} von {size})",
   "languages.label": "Sprache",
   "list.actions": "Aktionen",
   "list.again": "Neu fragen",
@@ -156,12 +171,18 @@ export const german = {
   "rule.11": "Regel 11: Das Kontingent Ihres Kontos für heute ist verbraucht. Um Mitternacht UTC beginnt es neu.",
   "rule.12":
     "Regel 12: Datenbank oder Unterzeichner des Servers antworten zur Zeit nicht. Versuchen Sie es später noch einmal.",
+  "site.certificates": "Zertifikate zum Speichern",
+  "site.contact": "Kontakt",
+  "site.operator": "Betreiber",
+  "site.policy": "Richtlinie",
+  "site.title": "Wer dies betreibt",
   "signature.known": "Unterzeichnet von {name}, mit dessen Zertifikat diese Seite eingerichtet ist.",
+  "signature.namesake":
+    "Die Signatur passt zu einem Zertifikat auf den Namen {name}, das keines von denen dieses Namens ist, mit denen " +
+    "diese Seite eingerichtet ist. So eines kann jeder machen: Fragen Sie, wer diesen Namen hat.",
   "signature.other":
     "Die Signatur passt zum Zertifikat von {name}, das keines von denen ist, mit denen diese Seite eingerichtet ist. " +
-    "Ob dem zu trauen ist, prüft diese Seite nicht: siehe unten.",
-  "signature.right":
-    "Die Signatur passt zum Zertifikat von {name}. Ob dem zu trauen ist, prüft diese Seite nicht: siehe unten.",
+    "Ob ihm zu trauen ist, ist hier nicht bekannt.",
   "signature.unknown.algorithm": "Die Signatur ist von einer Art, die diese Seite nicht prüft: siehe unten.",
   "signature.unknown.certificate":
     "Die Signatur wurde nicht geprüft: Das Token enthält kein Zertifikat, und diese Seite kennt keines, das " +
@@ -172,24 +193,27 @@ export const german = {
   "signature.wrong.validity": "Das Zertifikat von {name} war zur Zeit des Tokens nicht gültig.",
   "skip": "Zum Inhalt",
   "stamp.algorithm": "Hashfunktion",
-  "stamp.announced": "{name}: Token von {time}",
+  "stamp.announced": "{name}: {what}",
   "stamp.asking": "Das Token wird erfragt …",
-  "stamp.cancel": "Abbrechen",
-  "stamp.cancelled": "Abgebrochen. Gefragt wurde nichts.",
+  "stamp.cancelled": "Abgebrochen. Es gibt kein Token.",
   "stamp.certificate": "das Zertifikat im Token",
-  "stamp.done": "Hash wird gebildet: {done} von {size}",
-  "stamp.drop": "Ziehen Sie Dateien hierher, oder wählen Sie welche:",
-  "stamp.failed": "{name}: kein Token",
+  "stamp.count": "{count} von {all} Dateien haben ihr Token.",
+  "stamp.drop": "Ziehen Sie Dateien oder Ordner hierher, oder wählen Sie Dateien:",
   "stamp.fits": "Das Token gilt für diese Datei und diese Anfrage: Hash und Nonce sind die gesendeten.",
   "stamp.fits.policy":
     "Das Token gilt für diese Datei und diese Anfrage: Hash, Nonce und Richtlinie sind die gesendeten.",
-  "stamp.given": "Token von {time}",
+  "stamp.given.good": "Token von {time}",
+  "stamp.given.warn": "Token von {time}. Wer es unterzeichnet hat, ist hier nicht bekannt.",
   "stamp.intro":
-    "Ein Zeitstempel-Token sagt, dass es eine Datei zu einem Zeitpunkt gab. Nur der Hash der Datei verlässt " +
-    "diesen Browser, nie die Datei.",
+    "Ein Zeitstempel-Token zeigt jedem, auch nach Jahren, dass es Ihre Datei zu einem Zeitpunkt gab und sie seither " +
+    "nicht verändert wurde. Nur der Hash der Datei verlässt diesen Browser, nie die Datei.",
+  "stamp.more": "Was es sagt, und wie es geprüft wird",
+  "stamp.often":
+    "Der Server nimmt nur so viele Anfragen auf einmal an. In {seconds} s wird er noch einmal gefragt.",
   "stamp.options": "Was verlangt wird",
-  "stamp.policy": "Richtlinie, ein Object Identifier; keine für die Ihres Kontos",
-  "stamp.policy.fault": "Das ist kein Object Identifier wie 2.999.1.",
+  "stamp.policy": "Richtlinie",
+  "stamp.policy.own": "die Ihres Kontos",
+  "stamp.save": "Alle speichern",
   "stamp.title": "Dateien stempeln",
   "stamp.waiting": "Wartet auf die Dateien davor.",
   "state.asked": "Stand von {time}",
@@ -210,11 +234,13 @@ export const german = {
   "state.store": "Fehler der Datenbank",
   "state.title": "Zustand",
   "title": "Zeitstempel",
+  "unchecked": "Hier nicht geprüft: ob das Zertifikat gesperrt wurde.",
+  "unchecked.chain": "Hier nicht geprüft: ob das Zertifikat gesperrt wurde, und seine Kette bis zu einer Wurzel.",
+  "unchecked.unled":
+    "Hier nicht geprüft: ob das Zertifikat gesperrt wurde. Zu einer Wurzel, mit der diese Seite eingerichtet ist, " +
+    "führt von ihm keine Kette.",
   "verify.note":
-    "Diese Seite prüft weder Zertifikatskette noch Sperrung noch Verwendung. OpenSSL tut es, mit dem " +
-    "Zertifikat der ausstellenden Stelle in ca.pem, das Sie dort holen, wo Sie vertrauen:",
+    "In einem Ordner mit der Datei, dem Token und {files} prüfen diese Zeilen auch die Kette. Angebotene Zertifikate " +
+    "stehen am Fuß dieser Seite; ca.pem vergleichen Sie mit einem von dort, wo Sie vertrauen:",
   "verify.title": "Mit OpenSSL prüfen",
-  "verify.untrusted":
-    "Das Token enthält kein Zertifikat: OpenSSL braucht das der Stelle in tsa.pem und das ihres Ausstellers " +
-    "in ca.pem, von dort, wo Sie vertrauen:",
 };

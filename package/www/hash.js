@@ -231,4 +231,11 @@ export const ALGORITHMS = {
 
 export const SHA256 = "2.16.840.1.101.3.4.2.1";
 
+// what a policy mostly has, where nobody tells
+export const BUILT_IN = [SHA256, "2.16.840.1.101.3.4.2.2", "2.16.840.1.101.3.4.2.3"];
+
+// An algorithm by its object identifier, or by its name such as sha256.
+export const identified = (word) =>
+  Object.keys(ALGORITHMS).find((oid) => ALGORITHMS[oid].name.replace("-", "").toLowerCase() === word) ?? word;
+
 export const hashed = (algorithm, octets) => ALGORITHMS[algorithm].begin().update(octets).digest();

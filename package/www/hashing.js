@@ -1,12 +1,12 @@
 // The hash of a file, of whatever size, by a worker beside the page.
-import { Refusal } from "./counter.js";
-
-export class Cancelled extends Error {}
+import { Cancelled, Refusal } from "./counter.js";
 
 let worker = null;
 let last = 0;
 // what is told of each file, by its number
 const told = new Map();
+// what was hashed once isn't hashed again: of each file, by the algorithm
+const hashes = new WeakMap();
 
 // The worker is begun with the page: later the server may be out of reach, and files can still be checked.
 function atWork() {
@@ -22,7 +22,14 @@ function atWork() {
 }
 
 // Tells `progress` how many octets are done; `signal` ends it. Refused if the file can't be read.
-export function hashOf(file, algorithm, progress, signal) {
+export async function hashOf(file, algorithm, progress, signal) {
+  if (!hashes.has(file)) hashes.set(file, {});
+  const known = hashes.get(file);
+  known[algorithm] ??= await begun(file, algorithm, progress, signal);
+  return known[algorithm];
+}
+
+function begun(file, algorithm, progress, signal) {
   last += 1;
   const number = last;
   const found = new Promise((resolve, reject) => {

@@ -1,8 +1,10 @@
 // The page as a whole: its parts, its language, and the key.
 import * as check from "./check.js";
-import { Refusal, deposits as askDeposits, hasKey, useKey } from "./counter.js";
+import { Refusal, account, hasKey, site as siteOf, useKey } from "./counter.js";
 import * as deposits from "./deposits.js";
 import { announce, busy, byId, noOutcome, outcome } from "./elements.js";
+import { offer, offerOwn } from "./options.js";
+import * as site from "./site.js";
 import * as stamp from "./stamp.js";
 import * as state from "./state.js";
 import { choose, preferred, show } from "./texts.js";
@@ -33,12 +35,12 @@ function refresh(part) {
   if (part === "state") state.ask();
 }
 
-function changed() {
+function changed(name) {
   const isThere = hasKey();
   for (const one of document.querySelectorAll(".with-key")) one.hidden = !isThere;
   for (const one of document.querySelectorAll(".needs-key")) one.hidden = isThere;
   byId("account-forget").hidden = !isThere;
-  show(byId("account-state"), isThere ? "account.some" : "account.none");
+  show(byId("account-state"), isThere ? (name ? "account.named" : "account.some") : "account.none", { name });
   deposits.forget();
   state.forget();
 }
@@ -46,7 +48,7 @@ function changed() {
 // What people have at hand is often the whole line that curl takes from a file.
 const typed = () => byId("account-key").value.trim().replace(/^counter-key:\s*/i, "");
 
-// Whose key it is the counter doesn't tell, but whether it is an account's.
+// A key is used once the server knows it; until then, and if it doesn't, the last one stays.
 async function use() {
   const place = byId("account-outcome");
   const key = typed();
@@ -54,17 +56,17 @@ async function use() {
   if (!key) return forget();
   // what a field of HTTP may hold
   if (!/^[\x20-\x7e]+$/.test(key)) return outcome(place, "bad", "account.fault");
-  useKey(key);
+  let told;
   try {
-    await askDeposits();
+    told = await account(key);
   } catch (error) {
-    useKey("");
-    changed();
     if (!(error instanceof Refusal)) throw error;
     return outcome(place, "bad", error.text, error.values);
   }
+  useKey(key);
   byId("account-key").value = "";
-  changed();
+  changed(told?.name);
+  offer(told, await siteOf());
   outcome(place, "good", "account.good");
   byId("account").open = false;
   byId("account").firstElementChild.focus();
@@ -77,6 +79,7 @@ function forget() {
   byId("account-key").value = "";
   changed();
   outcome(byId("account-outcome"), "", "account.forgotten");
+  offerOwn();
 }
 
 function begin() {
@@ -91,9 +94,10 @@ function begin() {
   byId("account-forget").addEventListener("click", forget);
   // a file that misses its place isn't opened in place of the page
   for (const name of ["dragover", "drop"]) window.addEventListener(name, (event) => event.preventDefault());
-  for (const part of [stamp, check, deposits, state]) part.begin();
+  for (const part of [stamp, check, deposits, state, site]) part.begin();
   window.addEventListener("hashchange", () => open(false));
   changed();
+  offerOwn();
   open(true);
 }
 

@@ -1,12 +1,16 @@
-// Whether a token's signature is right, by the browser's own cryptography, for the kinds that a key holder makes.
-// Nothing here looks whether a certificate is one to trust: its path, its revocation and its usage are OpenSSL's to
-// check.
+// Whether a token's signature is right, by the browser's own cryptography, for the kinds that a key holder makes; and
+// whether a chain leads from its certificate to a root. Nothing here looks whether a certificate was revoked.
 import { TAGS, Value, equal, joined, only } from "./der.js";
 
 const CONTENT_TYPE = "1.2.840.113549.1.9.3";
 const MESSAGE_DIGEST = "1.2.840.113549.1.9.4";
 const SIGNING_CERTIFICATE = "1.2.840.113549.1.9.16.2.12";
 const SIGNING_CERTIFICATE_2 = "1.2.840.113549.1.9.16.2.47";
+const BASIC_CONSTRAINTS = "2.5.29.19";
+const KEY_USAGE = "2.5.29.15";
+const EXTENDED_KEY_USAGE = "2.5.29.37";
+const READ = new Set([BASIC_CONSTRAINTS, KEY_USAGE]);
+const TIME_STAMPING = "1.3.6.1.5.5.7.3.8";
 const TST_INFO = "1.2.840.113549.1.9.16.1.4";
 const DIGESTS = {
   "2.16.840.1.101.3.4.2.1": "SHA-256",
@@ -62,6 +66,7 @@ function rawSignature(octets, length) {
   return joined(...numbers);
 }
 
+// Whether what is signed, attributes or another certificate, is so by this one's key; undefined for other algorithms.
 async function isSignedBy(signer, certificate) {
   const kind = SIGNATURES[signer.signatureAlgorithm];
   const hash = kind?.hash ?? DIGESTS[signer.digestAlgorithm];
@@ -85,8 +90,9 @@ export async function judged(token, known) {
   const { signer, info } = token;
   const certificate = await signerOf(token, [...known, ...token.certificates]);
   if (!certificate) return { state: "unknown", why: "certificate" };
-  const isKnown = known.some((one) => equal(one.octets, certificate.octets));
-  const found = { certificate, isKnown, isAnyKnown: known.length > 0 };
+  const isKnown = isAmong(certificate, known);
+  const isNamesake = !isKnown && known.some((one) => equal(one.subject, certificate.subject));
+  const found = { certificate, isKnown, isNamesake };
   const algorithm = DIGESTS[signer.digestAlgorithm];
   if (!algorithm) return { ...found, state: "unknown", why: "algorithm" };
   const [kind] = signer.attributes[CONTENT_TYPE] ?? [];
@@ -96,20 +102,56 @@ export async function judged(token, known) {
   if (signer.issuer && (signer.serial !== certificate.serial || !equal(signer.issuer, certificate.issuer))) {
     return { ...found, state: "wrong", why: "certificate" };
   }
-  let isSigned;
-  try {
-    isSigned = await isSignedBy(signer, certificate);
-  } catch {
-    isSigned = false;
-  }
+  const isSigned = await isSignedBy(signer, certificate).catch(() => false);
   if (isSigned === undefined) return { ...found, state: "unknown", why: "algorithm" };
   if (!isSigned) return { ...found, state: "wrong", why: "signature" };
-  const isInTime = certificate.from <= info.time && info.time <= certificate.to + 999_999n;
-  return isInTime ? { ...found, state: "right" } : { ...found, state: "wrong", why: "validity" };
+  if (!isValid(certificate, info.time)) return { ...found, state: "wrong", why: "validity" };
+  return { ...found, state: "right" };
 }
 
-// The certificates of a file in PEM.
-export function readPem(text) {
-  const blocks = text.matchAll(/-----BEGIN CERTIFICATE-----([A-Za-z0-9+/=\s]+)-----END CERTIFICATE-----/g);
-  return Array.from(blocks, ([, block]) => Uint8Array.from(atob(block.replace(/\s/g, "")), (one) => one.charCodeAt(0)));
+const isValid = (certificate, time) => certificate.from <= time && time <= certificate.to + 999_999n;
+
+const isAmong = (certificate, others) => others.some((one) => equal(one.octets, certificate.octets));
+
+// Whether a certificate may certify, with so many others between it and the end (RFC 5280 4.2.1.3, 4.2.1.9, 6.1.4).
+function isAuthority({ extensions }, between) {
+  const [constraints, usage] = [extensions[BASIC_CONSTRAINTS], extensions[KEY_USAGE]];
+  const isKnown = Object.keys(extensions).every((kind) => READ.has(kind) || !extensions[kind].isCritical);
+  const [is, most] = constraints ? only(constraints.contents).as(TAGS.sequence).children : [];
+  // the sixth bit is keyCertSign
+  const certifies = !usage || (only(usage.contents).as(TAGS.bits).contents[1] & 0x04) !== 0;
+  return isKnown && certifies && is?.tag === TAGS.boolean && (!most || BigInt(between) <= most.integer);
+}
+
+async function certifies(issuer, certificate, time, between, isRoot) {
+  if (!equal(issuer.subject, certificate.issuer) || !isValid(issuer, time)) return false;
+  if (!isRoot && !isAuthority(issuer, between)) return false;
+  return (await isSignedBy(certificate, issuer).catch(() => false)) === true;
+}
+
+// Whether its key may sign time-stamps alone (RFC 3161 2.3).
+function isForStamps({ extensions }) {
+  const usage = extensions[EXTENDED_KEY_USAGE];
+  const purposes = usage ? only(usage.contents).as(TAGS.sequence).children.map((one) => one.oid) : [];
+  return Boolean(usage?.isCritical) && purposes.join() === TIME_STAMPING;
+}
+
+// The root to which a chain leads from a certificate at a moment, of those that the page was set up with; null if none
+// does. Each of the others is tried once: whether it leads there doesn't depend on how it is reached.
+export async function rootOf(certificate, roots, others, time) {
+  if (!isForStamps(certificate)) return null;
+  const left = new Set(others);
+  async function from(one, between) {
+    if (isAmong(one, roots)) return one;
+    for (const root of roots) if (await certifies(root, one, time, between, true)) return root;
+    for (const other of left) {
+      if (await certifies(other, one, time, between, false)) {
+        left.delete(other);
+        const found = await from(other, between + 1);
+        if (found) return found;
+      }
+    }
+    return null;
+  }
+  return from(certificate, 0);
 }

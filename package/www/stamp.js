@@ -1,42 +1,27 @@
 // Files are hashed, one after the other, and a token is asked for each.
-import { card, signatureFinding } from "./card.js";
-import { Refusal, knownCertificates, stamp } from "./counter.js";
-import { isOid } from "./der.js";
-import { announce, button, byId, droppable, fileName, make, noOutcome, outcome, told } from "./elements.js";
-import { Cancelled, hashOf } from "./hashing.js";
-import { judged } from "./signatures.js";
-import { show, size, utc } from "./texts.js";
+import { cardParts, judgementOf, marked, signatureFinding, verdict } from "./card.js";
+import { Cancelled, Refusal, stamp } from "./counter.js";
+import { announce, button, byId, droppable, fileName, make, pathOf, put, told } from "./elements.js";
+import { chosenOptions, optionsBegin } from "./options.js";
+import { cancelOf, hashShown } from "./progress.js";
+import { number, show, text, utc } from "./texts.js";
 import { differences, newNonce, readResponse, writeRequest } from "./tokens.js";
+import { archive } from "./zip.js";
 
+// an archive has room for 65,535
+const MOST_TOKENS = 30_000;
+
+// all that were chosen, the oldest first
+const all = [];
 let last = Promise.resolve();
 
-// What is asked for, or null if the policy is none.
-function options() {
-  const policy = byId("stamp-policy").value.trim();
-  const fault = byId("stamp-policy-fault");
-  if (policy && !isOid(policy)) {
-    outcome(fault, "bad", "stamp.policy.fault");
-    byId("stamp-policy").closest("details").open = true;
-    byId("stamp-policy").focus();
-    return null;
-  }
-  noOutcome(fault);
-  return {
-    algorithm: byId("stamp-algorithm").value,
-    policy: policy || null,
-    isCertificateAsked: byId("stamp-certificate").checked,
-  };
-}
-
 // What came of a request: the parts of a card. A reply that isn't the request's is never offered as a token.
-async function answered(file, asked, request) {
-  const octets = await stamp(request);
-  const known = await knownCertificates();
+async function answered(file, asked, request, octets) {
   let response;
   let judgement;
   try {
     response = readResponse(octets);
-    judgement = response.isGranted ? await judged(response.token, known) : null;
+    judgement = response.isGranted ? await judgementOf(response.token) : null;
   } catch {
     throw new Refusal("reply.malformed");
   }
@@ -46,15 +31,16 @@ async function answered(file, asked, request) {
   const { token } = response;
   const [unfit] = differences(token, asked);
   if (unfit) throw new Refusal(`reply.unfit.${unfit}`);
-  const signature = signatureFinding(judgement);
-  if (signature[0] === "bad") throw new Refusal(signature[1], signature[2]);
+  const [isSigned, key, values] = signatureFinding(judgement);
+  if (isSigned === "bad") throw new Refusal(key, values);
   const base = fileName(file.name);
+  const kind = verdict(true, judgement);
   return {
-    heading: { key: "stamp.given", values: { time: utc(token.info.time) } },
-    kind: "good",
-    findings: [["good", asked.policy ? "stamp.fits.policy" : "stamp.fits"], signature],
+    heading: { key: `stamp.given.${kind}`, values: { time: utc(token.info.time) } },
+    kind,
+    findings: [["good", asked.policy ? "stamp.fits.policy" : "stamp.fits"]],
     token,
-    certificate: judgement.certificate,
+    judgement,
     file,
     files: { reply: octets, request },
     names: { file: file.name, reply: `${base}.tsr`, request: `${base}.tsq` },
@@ -68,46 +54,102 @@ function failure(error) {
   return ["bad", "fault"];
 }
 
-// Shows how far the hashing is, with a button that ends it.
-function progressOf(file, place) {
+// Asks for a token, and says why it waits, where the server has it wait.
+function askedFor(request, place) {
   const ended = new AbortController();
-  const bar = make("progress", { max: Math.max(1, file.size), value: 0, "aria-label": file.name });
-  const done = told("p", "stamp.done", { done: size(0), size: size(file.size) }, { class: "note" });
-  const cancel = told("button", "stamp.cancel", {}, { type: "button" });
-  cancel.addEventListener("click", () => ended.abort());
-  place.replaceChildren(bar, done, cancel);
-  const tell = (octets) => {
-    bar.value = octets;
-    show(done, "stamp.done", { done: size(octets), size: size(file.size) });
+  const note = told("p", "stamp.asking", {}, { class: "note" });
+  put(place, note);
+  const waiting = (seconds) => {
+    show(note, "stamp.often", { seconds: number(seconds) });
+    if (!note.nextSibling) note.after(cancelOf(ended));
   };
-  return { tell, signal: ended.signal };
+  return stamp(request, { waiting, signal: ended.signal });
 }
 
-async function stampOne(file, asked, place) {
+async function stampOne(one, options) {
+  const { file, place } = one;
+  one.state = "waiting";
   try {
-    const { tell, signal } = progressOf(file, place);
-    const hash = await hashOf(file, asked.algorithm, tell, signal);
-    place.replaceChildren(told("p", "stamp.asking", {}, { class: "note" }));
-    const all = { ...asked, hash, nonce: newNonce() };
-    const found = await answered(file, all, writeRequest(all));
-    place.replaceChildren(...card(found));
-    announce("stamp.announced", { name: file.name, time: found.heading.values.time });
+    const hash = await hashShown(file, options.algorithm, place);
+    const asked = { ...options, hash, nonce: newNonce() };
+    const request = writeRequest(asked);
+    const found = await answered(file, asked, request, await askedFor(request, place));
+    showToken(one, found);
   } catch (error) {
     const [kind, key, values] = failure(error);
-    const again = button("again", () => stampOne(file, asked, place));
-    place.replaceChildren(told("p", key, values, { class: `outcome ${kind}` }), again);
-    announce("stamp.failed", { name: file.name });
+    one.state = "failed";
+    put(place, marked("p", "outcome", kind, key, values), button("again", () => stampOne(one, chosenOptions())));
+    announce("stamp.announced", { name: file.name, what: () => text(key, values) });
   }
+  showCount();
+}
+
+function showToken(one, found) {
+  const { heading, saved, rest } = cardParts(found);
+  Object.assign(one, { state: "unsaved", files: found.files });
+  const [reply, request] = saved;
+  reply.addEventListener("click", () => {
+    one.state = "saved";
+  });
+  const parts = [told("summary", "stamp.more"), ...rest, make("p", {}, request)];
+  const more = make("details", { open: all.length === 1 }, ...parts);
+  put(one.place, heading, reply, more);
+  const { key, values } = found.heading;
+  announce("stamp.announced", { name: one.file.name, what: () => text(key, values) });
+}
+
+// How many have their token; where there are several, one archive saves all.
+function showCount() {
+  const count = all.filter((one) => one.files).length;
+  show(byId("stamp-count"), "stamp.count", { count: number(count), all: number(all.length) });
+  byId("stamp-all").hidden = all.length < 2;
+  byId("stamp-save").disabled = count === 0;
+}
+
+// The paths of a file's reply and request, which no other has yet.
+function freeNames(file, taken) {
+  const path = pathOf(file).split("/").map(fileName).join("/");
+  for (let copy = 1; ; copy += 1) {
+    const name = copy === 1 ? path : `${path} (${copy})`;
+    if (!taken.has(name)) {
+      taken.add(name);
+      return [`${name}.tsr`, `${name}.tsq`];
+    }
+  }
+}
+
+function saveAll() {
+  const ready = all.filter((one) => one.files);
+  const taken = new Set();
+  for (let at = 0; at < ready.length; at += MOST_TOKENS) {
+    const files = ready.slice(at, at + MOST_TOKENS).flatMap(({ file, files: { reply, request } }) => {
+      const [replyName, requestName] = freeNames(file, taken);
+      return [[replyName, reply], [requestName, request]];
+    });
+    const href = URL.createObjectURL(new Blob(archive(files), { type: "application/zip" }));
+    make("a", { href, download: "tokens.zip" }).click();
+    setTimeout(() => URL.revokeObjectURL(href), 60_000);
+  }
+  for (const one of ready) one.state = "saved";
 }
 
 function stampAll(files) {
-  const asked = options();
-  if (!asked) return;
+  const options = chosenOptions();
   for (const file of files) {
     const place = make("div", {}, told("p", "stamp.waiting", {}, { class: "note" }));
-    byId("stamp-results").prepend(make("article", { "aria-label": file.name }, make("h3", {}, file.name), place));
-    last = last.then(() => stampOne(file, asked, place));
+    const path = pathOf(file);
+    const named = { "aria-label": path, class: "line-of-file" };
+    byId("stamp-results").append(make("article", named, make("h3", {}, path), place));
+    const one = { file, place, state: "waiting" };
+    all.push(one);
+    last = last.then(() => stampOne(one, options));
   }
+  showCount();
+}
+
+// A token that isn't saved is lost with the page.
+function ask(event) {
+  if (all.some(({ state }) => state === "unsaved" || state === "waiting")) event.preventDefault();
 }
 
 export function begin() {
@@ -118,4 +160,7 @@ export function begin() {
     input.value = "";
   });
   droppable(byId("stamp"), stampAll);
+  byId("stamp-save").addEventListener("click", saveAll);
+  window.addEventListener("beforeunload", ask);
+  optionsBegin();
 }

@@ -89,6 +89,10 @@ export const span = (microseconds) => () => {
   return new Intl.NumberFormat(language, how).format(whole / size);
 };
 
+// A part of a whole, in whole per cent and never more than was done.
+export const percent = (part) => () =>
+  new Intl.NumberFormat(language, { style: "percent" }).format(Math.floor(part * 100) / 100);
+
 // How many octets, in units of 1024.
 export const size = (octets) => () => {
   const units = ["B", "KiB", "MiB", "GiB", "TiB"];

@@ -1,5 +1,5 @@
 // Requests, replies and tokens of time-stamping (RFC 3161 2.4, RFC 5652 5, RFC 5816), as values of the page.
-import { Malformed, TAGS, equal, integer, oid, only, sequence, written } from "./der.js";
+import { Malformed, TAGS, equal, integer, oid, only, readPem, sequence, written } from "./der.js";
 
 const SIGNED_DATA = "1.2.840.113549.1.7.2";
 const TST_INFO = "1.2.840.113549.1.9.16.1.4";
@@ -77,21 +77,37 @@ export function readName(value) {
 }
 
 export function readCertificate(octets) {
-  const [body] = only(octets).as(TAGS.sequence).children;
+  const [body, algorithm, signature] = only(octets).as(TAGS.sequence).children;
   const parts = body.as(TAGS.sequence).children;
   // the version is written unless it is 1
-  const [serial, , issuer, validity, subject, key] = parts[0].tag === 0xa0 ? parts.slice(1) : parts;
+  const [serial, , issuer, validity, subject, key, ...others] = parts[0].tag === 0xa0 ? parts.slice(1) : parts;
   const [from, to] = validity.as(TAGS.sequence).children;
   return {
     octets,
     serial: serial.as(TAGS.integer).integer,
     issuer: issuer.as(TAGS.sequence).whole,
     issuerName: readName(issuer),
+    subject: subject.as(TAGS.sequence).whole,
     subjectName: readName(subject),
     from: from.moment,
     to: to.moment,
     key: key.as(TAGS.sequence).whole,
+    extensions: readExtensions(others.find((value) => value.tag === 0xa3)),
+    signed: body.whole,
+    signatureAlgorithm: readAlgorithm(algorithm),
+    signature: signature.as(TAGS.bits).bits,
   };
+}
+
+// By object identifier: the value's octets, and whether one has to know it (RFC 5280 4.1).
+function readExtensions(value) {
+  const all = value ? value.children[0].as(TAGS.sequence).children : [];
+  return Object.fromEntries(
+    all.map((one) => {
+      const [kind, ...others] = one.as(TAGS.sequence).children;
+      return [kind.oid, { isCritical: others[0].tag === TAGS.boolean, contents: others.at(-1).contents }];
+    }),
+  );
 }
 
 function readSigner(value) {
@@ -157,21 +173,13 @@ export function readResponse(octets) {
   return { isGranted, text, rule, token: isGranted ? readToken(token.whole) : null };
 }
 
-// The token of a file: of a reply, or of a token by itself.
+// The token of a file: of a reply, or of a token by itself, which may be in PEM or in base 64.
 export function readFile(octets) {
-  const [first] = only(octets).as(TAGS.sequence).children;
-  if (first.tag !== TAGS.oid) return readResponse(octets);
-  return { isGranted: true, text: "", rule: null, token: readToken(octets) };
-}
-
-// Whether octets look like a token or a reply, and so not like the file that was stamped.
-export function isToken(octets) {
-  try {
-    readFile(octets);
-    return true;
-  } catch {
-    return false;
-  }
+  const der = octets[0] === TAGS.sequence ? octets : (readPem(octets)[0] ?? octets);
+  const [first] = only(der).as(TAGS.sequence).children;
+  const found = { octets: der, isReply: first.tag !== TAGS.oid, isWrapped: der !== octets };
+  if (found.isReply) return { ...readResponse(der), ...found };
+  return { isGranted: true, text: "", rule: null, token: readToken(der), ...found };
 }
 
 // What of a token differs from what was asked: names of the parts.
