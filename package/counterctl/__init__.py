@@ -1,0 +1,1 @@
+"""The tasks of counterctl, a file for each; `main` reads the words."""
