@@ -1,10 +1,10 @@
 /* Loaded into a program before the C library: has it read other clocks than the system's. With CLOCK_AT=SECONDS, or so
    with nine digits behind as 0.000001999, the machine's clock stands at that moment since 1970 when it is first looked
    at, and goes on as the monotonic clock does. With CLOCK_SET=N it has been set each time that it is looked at again,
-   by N nanoseconds, back where that is below zero. With CLOCK_FAILS=N it can't be read from the Nth time on that it is
-   looked at. With CLOCK_STEP=N the monotonic clock is at 0 when it is first looked at, and N nanoseconds further each
-   time that it is looked at again; a file that CLOCK_LOOKS names gets an octet each time then. Without these variables,
-   and for other clocks, the system tells. */
+   by N nanoseconds, back where that is below zero. With CLOCK_AHEAD=N it is the system's, N nanoseconds ahead. With
+   CLOCK_FAILS=N it can't be read from the Nth time on that it is looked at. With CLOCK_STEP=N the monotonic clock is at
+   0 when it is first looked at, and N nanoseconds further each time that it is looked at again; a file that CLOCK_LOOKS
+   names gets an octet each time then. Without these variables, and for other clocks, the system tells. */
 #include <errno.h>
 #include <fcntl.h>
 #include <stdlib.h>
@@ -30,6 +30,12 @@ static long long monotonic(void) {
   return time.tv_sec * NANOSECONDS + time.tv_nsec;
 }
 
+static void add(struct timespec *time, long long nanoseconds) {
+  long long behind = time->tv_nsec + nanoseconds;
+  time->tv_sec += behind / NANOSECONDS - (behind % NANOSECONDS < 0);
+  time->tv_nsec = (behind % NANOSECONDS + NANOSECONDS) % NANOSECONDS;
+}
+
 static int look(struct timespec *time, const char *at, const char *fails, const char *set) {
   looks++;
   if (fails && looks >= atol(fails)) {
@@ -41,10 +47,8 @@ static int look(struct timespec *time, const char *at, const char *fails, const 
   if (looks == 1) origin = now;
   char *point;
   time->tv_sec = strtoll(at, &point, 10);
-  long long behind = *point == '.' ? strtol(point + 1, NULL, 10) : 0;
-  behind += now - origin + (set ? atoll(set) * (looks - 1) : 0);
-  time->tv_sec += behind / NANOSECONDS - (behind % NANOSECONDS < 0);
-  time->tv_nsec = (behind % NANOSECONDS + NANOSECONDS) % NANOSECONDS;
+  time->tv_nsec = *point == '.' ? strtol(point + 1, NULL, 10) : 0;
+  add(time, now - origin + (set ? atoll(set) * (looks - 1) : 0));
   return 0;
 }
 
@@ -61,5 +65,8 @@ int clock_gettime(clockid_t clock, struct timespec *time) {
   const char *at = getenv("CLOCK_AT"), *fails = getenv("CLOCK_FAILS"), *count = getenv("CLOCK_STEP");
   if (clock == CLOCK_REALTIME && (at || fails)) return look(time, at, fails, getenv("CLOCK_SET"));
   if (clock == CLOCK_MONOTONIC && count) return step(time, atoll(count));
-  return (int)syscall(SYS_clock_gettime, clock, time);
+  const char *ahead = getenv("CLOCK_AHEAD");
+  int result = (int)syscall(SYS_clock_gettime, clock, time);
+  if (clock == CLOCK_REALTIME && ahead && result == 0) add(time, atoll(ahead));
+  return result;
 }

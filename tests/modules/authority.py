@@ -12,7 +12,7 @@ from modules.programs import EXAMPLE, KEY_HOLDER, PROGRAM, now, openssl, sqlite
 
 # how long a program has to listen on its port, on a slow machine
 SECONDS_TO_START = 120
-# the lines of a start of `serve`
+# the lines of a start of `serve --tell`
 LISTENING = re.compile(rb"^event=listening address=(\S+) seconds=\d+\n", re.M)
 START = re.compile(rb"event=opening octets=[1-9]\d*\n(" + LISTENING.pattern + rb")?", re.M)
 MOST_OCTETS = 4096
@@ -152,7 +152,7 @@ class Authority:
 
     def serve_words(self, *signer, listen="127.0.0.1:0"):
         words = [PROGRAM, "serve", *self.desk_words(*signer)]
-        return [*words, "--listen", listen, "--connections", str(MOST_CONNECTIONS)]
+        return [*words, "--listen", listen, "--connections", str(MOST_CONNECTIONS), "--tell"]
 
     def serving(self, *signer):
         return Server(self.serve_words(*signer))

@@ -60,7 +60,7 @@ class Browser:
         os.close(to_read)
         os.close(to_write)
         self.taken, self.number, self.session = b"", 0, None
-        self.requests, self.errors, self.choosers, self.paused, self.loads = [], [], [], [], 0
+        self.requests, self.errors, self.choosers, self.paused, self.dialogs, self.loads = [], [], [], [], [], 0
         self.attach()
 
     def attach(self):
@@ -81,19 +81,23 @@ class Browser:
         os.close(self.to_read)
         os.close(self.to_write)
 
-    def call(self, method, seconds=SECONDS, **parameters):
-        """Does something of the protocol's, and answers what came of it; notes what happens meanwhile."""
+    def send(self, method, parameters):
         self.number += 1
         message = {"id": self.number, "method": method, "params": parameters}
         if self.session:
             message["sessionId"] = self.session
         os.write(self.to_write, json.dumps(message).encode() + b"\0")
+        return self.number
+
+    def call(self, method, seconds=SECONDS, **parameters):
+        """Does something of the protocol's, and answers what came of it; notes what happens meanwhile."""
+        number = self.send(method, parameters)
         end = time.monotonic() + seconds
         while True:
             said = self.message(end)
             if said is None:
                 raise RuntimeError(f"Chromium doesn't answer {method}: {self.said()}")
-            if said.get("id") == self.number:
+            if said.get("id") == number:
                 if "error" in said:
                     raise RuntimeError(f"{method}: {said['error']}")
                 return said["result"]
@@ -130,13 +134,21 @@ class Browser:
             self.paused.append(of)
         elif method == "Page.loadEventFired":
             self.loads += 1
+        elif method == "Page.javascriptDialogOpening":
+            self.dialogs.append(of["type"])
+            # whoever is asked goes on
+            self.send("Page.handleJavaScriptDialog", {"accept": True})
 
-    def open(self, url):
+    def open(self, url=None):
+        """Opens an address, or the page anew if none is named."""
         loads = self.loads
-        self.call("Page.navigate", url=url)
+        if url:
+            self.call("Page.navigate", url=url)
+        else:
+            self.call("Page.reload")
         end = time.monotonic() + SECONDS
-        while self.loads == loads and time.monotonic() < end:
-            self.evaluate("0")
+        while self.loads == loads and (said := self.message(end)):
+            self.note(said)
 
     def evaluate(self, expression, seconds=SECONDS):
         """The value of an expression of JavaScript, once it is there."""
@@ -234,8 +246,34 @@ class Browser:
         self.call("Fetch.fulfillRequest", requestId=asked["requestId"], responseCode=200, body=body)
         self.call("Fetch.disable")
 
+    def standing(self, target, status, text="", head=None, times=1_000_000):
+        """Has each page that is opened from now on find this answer, so many times, in the place of the server's; what
+        ends that."""
+        answer = json.dumps([text, {"status": status, "headers": head or {}}])
+        source = f"""{{
+          const before = window.fetch;
+          let left = {times};
+          window.fetch = (target, how) =>
+            target === "{target}" && left-- > 0 ? Promise.resolve(new Response(...{answer})) : before(target, how);
+        }}"""
+        added = self.call("Page.addScriptToEvaluateOnNewDocument", source=source)["identifier"]
+        return lambda: self.call("Page.removeScriptToEvaluateOnNewDocument", identifier=added)
+
+    def is_within(self, width):
+        """Whether a window of this width has all of the page without moving it sideways."""
+        self.call("Emulation.setDeviceMetricsOverride", width=width, height=900, deviceScaleFactor=1, mobile=False)
+        return self.evaluate("document.documentElement.scrollWidth <= document.documentElement.clientWidth")
+
+    def emulate(self, **features):
+        """Has the page find these of the reader's settings: `prefers_color_scheme`, `forced_colors`."""
+        all_of = [{"name": name.replace("_", "-"), "value": value} for name, value in features.items()]
+        self.call("Emulation.setEmulatedMedia", features=all_of)
+
     def screenshot(self, path):
-        shot = self.call("Page.captureScreenshot", format="png", captureBeyondViewport=True)
+        # all of the page, in the window's whole width: no bar stands in the picture
+        width, height = self.evaluate("[innerWidth, document.documentElement.scrollHeight]")
+        clip = {"x": 0, "y": 0, "width": width, "height": height, "scale": 1}
+        shot = self.call("Page.captureScreenshot", format="png", captureBeyondViewport=True, clip=clip)
         with open(path, "wb") as file:
             file.write(base64.b64decode(shot["data"]))
 

@@ -32,7 +32,7 @@ DAY = 86_400_000_000
 KEY = b"k"
 LIBRARIES = "stepping_clock", "recorded_disk", "refused_memory"
 # object identifiers (RFC 8017 appendix B.1, and the example's policies and extension)
-SHA_256, SHA_384, SHA_512 = (bytes.fromhex("0609608648016503040201")[:-1] + bytes([last]) for last in (1, 2, 3))
+SHA_256, SHA_512, SHA_224 = (bytes.fromhex("0609608648016503040201")[:-1] + bytes([last]) for last in (1, 3, 4))
 OPEN, STRICT = bytes.fromhex("0603883701"), bytes.fromhex("0603883702")
 BATCH, UNKNOWN = bytes.fromhex("0603883707"), bytes.fromhex("0603883708")
 TRUE, NULL = bytes.fromhex("0101ff"), bytes.fromhex("0500")
@@ -64,7 +64,7 @@ def text(**changes):
 
 def query(document, version=1, algorithm=SHA_256, digest=None, policy=b"", certificate=TRUE, extension=b""):
     """A TimeStampReq for a document (RFC 3161 2.4.1), or for a digest."""
-    name = {SHA_256: "sha256", SHA_384: "sha384", SHA_512: "sha512"}[algorithm]
+    name = {SHA_224: "sha224", SHA_256: "sha256", SHA_512: "sha512"}[algorithm]
     digest = hashlib.new(name, document).digest() if digest is None else digest
     imprint = value(0x30, value(0x30, algorithm, NULL), value(4, digest))
     extensions = value(0xA0, value(0x30, extension, value(4, b"\x2a"))) if extension else b""
@@ -206,7 +206,7 @@ class Counter:
 
     def serving(self, connections=ENDLESS, address=None, path=None, environment=None, **clock):
         """`serve` at work by such clocks, with the stand-in or a key holder; at a Unix socket if one is named."""
-        words = [PROGRAM, "serve", *self.desk_words(address), "--connections", str(connections)]
+        words = [PROGRAM, "serve", *self.desk_words(address), "--connections", str(connections), "--tell"]
         words += ["--listen", f"unix:{path}" if path else "127.0.0.1:0"]
         clock = {"at": AT, "set": STEP, "step": 0, **clock}
         variables = {f"CLOCK_{name.upper()}": str(told) for name, told in clock.items() if told is not None}
