@@ -194,7 +194,7 @@ def rejections(browser, folder, wrong):
     for given, policy, algorithm, part in (
         ("", "2.999.2", "SHA-512", RULE_6),
         (ALICE, "2.999.2", "SHA-256", "Rule 7: the policy doesn't allow this hash algorithm."),
-        (ALICE, "2.999.2", "SHA-384", "Rule 4: the server doesn't know this hash algorithm."),
+        (ALICE, "2.999.2", "SHA-224", "Rule 4: the server doesn't know this hash algorithm."),
         (ALICE, "2.999.2", "SHA-512", RULE_9),
     ):
         key(browser, given)
