@@ -78,7 +78,7 @@ def carry_proxy_over(machine):
         told = errors.decode(errors="replace").strip()
         machine.tell(f"{places.PROXY} stays as it was, since nginx refuses today's: {told}")
         return
-    machine.run("systemctl", "--no-block", "try-reload-or-restart", "nginx")
+    machine.run("systemctl", "try-reload-or-restart", "nginx")
     machine.tell(f"{places.PROXY}: today's, the older one is {places.PROXY}.older")
 
 
