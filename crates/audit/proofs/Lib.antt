@@ -1,4 +1,3 @@
-pub mod Accounts
 pub mod Checks
 pub mod Lines
 pub mod Rows

@@ -1,3 +1,4 @@
+pub mod Among
 pub mod Searches
 pub mod Kept
 pub mod HashTable

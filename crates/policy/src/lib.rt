@@ -1,6 +1,7 @@
 //! The policy file of a Time-Stamping Authority: what it may write into its tokens, and for whom.
 #![tactic(auto)]
 
+mod accounts;
 mod arrays;
 mod document;
 mod entries;

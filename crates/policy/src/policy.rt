@@ -1,5 +1,6 @@
 ghost use Rattle.std.specs.Prelude.{◌≤◌, length};
 
+use crate::accounts::is_among;
 use crate::document::from_table;
 use crate::entries::{Account, Algorithm, Counter, Extension, Group, TsaPolicy};
 use crate::fault::PolicyFault;
@@ -27,7 +28,7 @@ pub struct Policy {
 }
 
 impl Policy {
-    ghost use Rattle.std.specs.Prelude.{◌≡◌, Option, option_map};
+    ghost use Rattle.std.specs.Prelude.{◌≡◌, ◌↔◌, Contains, IsTrue, Option, option_map};
     ghost use Rattle.policy.specs.Answers.{AnswersMeaning};
     ghost use Rattle.policy.specs.Meaning.{meaning_of};
     ghost use Rattle.policy.specs.View.{algorithm_view, extension_view, tsa_policy_view, account_view, group_view};
@@ -78,6 +79,13 @@ impl Policy {
         ensures { option_map (λ a. account_view a.now) result ≡ account_named (policy_view self.now) name.now }
     {
         find_by_name(&self.accounts, name)
+    }
+
+    /// Whether the account is one of the file's, the same in all its fields. Takes no memory.
+    pub fn has_account(&self, account: &Account) -> bool
+        ensures { IsTrue result ↔ Contains (policy_view self.now).accounts (account_view account.now) }
+    {
+        is_among(&self.accounts, account)
     }
 
     /// The policy of that name. None where no policy has it. Takes no memory.

@@ -2,7 +2,7 @@ use Rattle.std.proofs.Common.{map, string_bytes, sym, ◌∙◌}
 use Rattle.std.specs.Cmp.Derive.Mapped.{pointwise-map}
 use Rattle.std.specs.Str.{bytes_eq}
 use Rattle.std.proofs.lemmas.Slice.Eq.{slice_eq-Decides, bytes_eq-Decides}
-use Rattle.audit.proofs.auditor.are_same_names.Goals as goal
+use Rattle.policy.proofs.accounts.are_same_names.Goals as goal
 
 pub returns : goal.returns
 returns c =

@@ -1,8 +1,8 @@
 use Rattle.std.proofs.Common.{◌≡◌, rules, tests}
 use Rattle.std.proofs.lemmas.Iterator.{YieldsList-from_slice, cases_from_any}
 use Rattle.policy.specs.View.{account_view}
-use Rattle.audit.proofs.Accounts.{tells_among}
-use Rattle.audit.proofs.auditor.is_among.Goals as goal
+use Rattle.policy.proofs.Among.{tells_among}
+use Rattle.policy.proofs.accounts.is_among.Goals as goal
 
 pub returns : goal.returns
 returns c =

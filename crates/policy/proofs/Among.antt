@@ -1,4 +1,4 @@
--- An account among those of a policy file.
+-- A value among those that elements stand for.
 use Rattle.std.proofs.Common.{◌≡◌, ℕ, ◌<◌, Bool, true, false, List, [], ◌∷◌, map, length, refl, sym, ◌∙◌, arith}
 use Rattle.std.specs.Prelude.{Contains, ◌↔◌, IsTrue}
 use Rattle.std.proofs.lemmas.List.{length-map, get_or-map}
