@@ -115,8 +115,8 @@ export const english = {
     "The signature fits a certificate of the name {name}, which is none of those of this name that this page was set " +
     "up with. Anybody can make such a one: ask those whose name it is.",
   "signature.other":
-    "The signature fits the certificate of {name}, which is none of those that this page was set up with. Whether " +
-    "it is to be trusted isn't known here.",
+    "The signature fits the certificate of {name}, which is none of those that this page was set up with. This " +
+    "page doesn't check whether to trust that certificate.",
   "signature.unknown.algorithm": "The signature is of a kind that this page doesn't check: see below.",
   "signature.unknown.certificate":
     "The signature wasn't checked: the token has no certificate, and this page knows none that fits. See below.",

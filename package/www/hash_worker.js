@@ -9,7 +9,7 @@ const PIECE = 4 * 1024 * 1024;
 const WHOLE = Math.min(512, 128 * (navigator.deviceMemory ?? 4)) * 1024 * 1024;
 const ended = new Set();
 
-// Room for all of a file; none where it is too large, or memory is wanting.
+// Room for all of a file; none where it is too large, or memory runs out.
 function room(size) {
   try {
     return size <= WHOLE ? new Uint8Array(size) : null;
