@@ -38,10 +38,12 @@ function refused(status, octets) {
   const [, word] = /^\d{3} (.{1,40})\n$/.exec(new TextDecoder().decode(octets.subarray(0, 60))) ?? [];
   const rule = /^rule (\d\d)$/.exec(word ?? "");
   if (rule) return new Refusal(`rule.${rule[1]}`);
+  // a proxy's own, with whatever word: it can't reach the server, or isn't answered in time
+  if (status === 502 || status === 504) return new Refusal("refusal.proxy", { status });
   if (WORDS.has(word)) return new Refusal(`refusal.${word}`);
   if (status === 413) return new Refusal("refusal.TooLarge");
   if (status === TOO_MANY) return new Refusal("refusal.often");
-  if (status >= 502 && status <= 504) return new Refusal("refusal.proxy", { status });
+  if (status === 503) return new Refusal("refusal.proxy", { status });
   return new Refusal("refusal.other", { status, word: word ?? "" });
 }
 
