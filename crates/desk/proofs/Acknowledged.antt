@@ -1,15 +1,13 @@
 -- The readers after a journey are those by the rights that it acknowledged and that its stops left.
-use Rattle.std.proofs.Common.{zero, suc, ◌≡◌, ℕ, ◌+◌, ◌==◌, ◌&&◌, nat_le, cond, ℤ, Bool, true, false, List, [], ◌∷◌, ◌++◌, drop, length}
-use Rattle.std.proofs.Common.{Option, Some, None, refl, sym, ◌∙◌, ap, subst}
-use Rattle.policy.specs.Record.{AccountValue}
+use Rattle.std.proofs.Common.{zero, suc, ◌≡◌, ℕ, ◌+◌, ◌==◌, ◌&&◌, nat_le, cond, Bool, true, false, List, []}
+use Rattle.std.proofs.Common.{◌∷◌, ◌++◌, drop, length, Option, Some, None, refl, sym, ◌∙◌, ap, subst}
 use Rattle.book.specs.Continuation.{Floor, continued}
 use Rattle.book.specs.History.{Entry, Reserved, Sealed, Deposited, Calibrated, Held, Granted, Revoked, History}
 use Rattle.book.specs.History.{Installed, InstalledValue, calibrations, holds, latest_calibration, token_of}
-use Rattle.book.specs.History.{deposit_under}
+use Rattle.book.specs.History.{ReservationValue}
 use Rattle.book.specs.Identities.{latest_identity}
 use Rattle.book.specs.Readers.{Reader, is_same}
 use Rattle.book.specs.Rights.{is_reader, seen_by}
-use Rattle.book.specs.Rows.{DepositRow}
 use Rattle.book.specs.Sound.{Along, is_backwards}
 use Rattle.book.proofs.Rights.{reader_after_grant, reader_after_revocation}
 use Rattle.desk.specs.Outcome.{Outcome, Cause, cause_of}
@@ -17,14 +15,14 @@ use Rattle.desk.specs.Findings.{StampPlan, Finding, Fails, Unanswered, Allowed}
 use Rattle.desk.specs.Command.{InForce, Setting, Command, Stamp, Begin, Finish, Abandon, Deposit, Show, Token, ListAll, Grant}
 use Rattle.desk.specs.Command.{Revoke, Calibrate, Hold, Succeed, Answer, Done, Refused}
 use Rattle.desk.specs.Texts.{octets_for}
-use Rattle.desk.specs.Effects.{Effect, only, unless, Stamping, Unreserved, Void, Sealing, no_number, no_seal}
-use Rattle.desk.specs.Effects.{stamping_of, stamp_effect, stamp_found, begin_effect, begin_found, finish_effect}
-use Rattle.desk.specs.Effects.{deposit_effect, deposit_found, right_effect}
+use Rattle.desk.specs.Effects.{Effect, only, unless, no_number, no_seal}
+use Rattle.desk.specs.Effects.{begin_effect, begin_found, finish_effect}
+use Rattle.desk.specs.Effects.{right_effect}
 use Rattle.desk.specs.Effects.{accepted, numbered, succeed_effect, calibrate_effect, name_of}
 use Rattle.desk.specs.Succession.{installed_by, is_latest}
 use Rattle.desk.specs.declared.fault.Fault.{Fault}
 use Rattle.desk.specs.declared.fault.Fault.TheVariants as fault
-use Rattle.desk.specs.MachineStep.{KeepsByReference, KeepsOnceSearched, KeepsWithinSize, HasEffect}
+use Rattle.desk.specs.MachineStep.{HasEffect}
 use Rattle.desk.specs.MachineRuns.{Told, Journey, begins, opens, opens_older, shuts, rests, enters, breaks, goes, stops}
 use Rattle.desk.specs.MachineRuns.{continues}
 use Rattle.desk.specs.Readers.{where_done, rights_by, rights_along}
@@ -32,6 +30,8 @@ use Rattle.desk.specs.Viewers.{viewer_in}
 use Rattle.desk.proofs.Branches.{if_has, unless_has, right_has}
 use Rattle.desk.proofs.StepFacts.{shows_none, tokens_none, answers_none}
 use Rattle.desk.proofs.WholeOn.{goes_along}
+use Rattle.desk.specs.Effects.{Purpose, purpose_found, next_reservation, for_reply, for_deposit}
+use Rattle.desk.proofs.Branches.{stamp_has, deposit_has}
 
 -- entries that are the same to each reader of each deposit
 abbrev SameRights : List Entry → List Entry → Type 0
@@ -62,17 +62,16 @@ IsSilent e = SameRights e.adds []
 refused_silent : (f : Fault) → IsSilent (only (Refused f))
 refused_silent f b h n account e = e
 
-stamp_silent : (s : Setting) (st : Stamping) → IsSilent (stamp_effect s st)
-stamp_silent s (Unreserved cause) b h n account e = e
-stamp_silent s (Void r cause) b h n account e = e
-stamp_silent s (Sealing r token) b h n account e = e
-
-stamp_found_silent : (s : Setting) (account octets : List ℕ) (o : Outcome) (b : History) (f : Finding)
-    → IsSilent (stamp_found s account octets o b f)
-stamp_found_silent s account octets o b (Fails rule) = λ c h n reader e. e
-stamp_found_silent s account octets o b (Unanswered cause) = λ c h n reader e. e
-stamp_found_silent s account octets o b (Allowed plan) =
-    stamp_silent s (stamping_of s account plan octets o b (no_number o b))
+stamp_silent : (u : Purpose) → ((r : ReservationValue) (token : List ℕ)
+    → SameRights (u.keeping.adds r.serial token ∷ Reserved r ∷ []) [])
+    → (s : Setting) (name octets : List ℕ) (o : Outcome) (b : History) (f : Finding)
+    → IsSilent (purpose_found u s name octets o b f)
+stamp_silent u silent s name octets o b f =
+    stamp_has IsSilent u s name octets o b (λ rule c h n reader e. e) (λ cause c h n reader e. e) f
+    (λ plan is left. (
+      λ cause c h n reader e. e,
+      λ token. silent (next_reservation s name plan octets b) token,
+    ))
 
 begin_silent : (s : Setting) (account octets : List ℕ) (plan : StampPlan) (b : History) (refused : Option Cause)
     → IsSilent (begin_effect s account plan octets b refused)
@@ -84,40 +83,6 @@ begin_found_silent : (s : Setting) (account octets : List ℕ) (o : Outcome) (b 
 begin_found_silent s account octets o b (Fails rule) = λ c h n reader e. e
 begin_found_silent s account octets o b (Unanswered cause) = λ c h n reader e. e
 begin_found_silent s account octets o b (Allowed plan) = begin_silent s account octets plan b (no_number o b)
-
-deposit_silent : (s : Setting) (owner reference bytes : List ℕ) (st : Stamping)
-    → IsSilent (deposit_effect s owner reference bytes st)
-deposit_silent s owner reference bytes (Unreserved cause) b h n account e = e
-deposit_silent s owner reference bytes (Void r cause) b h n account e = e
-deposit_silent s owner reference bytes (Sealing r token) b h n account e = e
-
-deposit_found_silent : (s : Setting) (owner reference bytes octets : List ℕ) (o : Outcome) (b : History) (f : Finding)
-    → IsSilent (deposit_found s owner reference bytes octets o b f)
-deposit_found_silent s owner reference bytes octets o b (Fails rule) = λ c h n reader e. e
-deposit_found_silent s owner reference bytes octets o b (Unanswered cause) = λ c h n reader e. e
-deposit_found_silent s owner reference bytes octets o b (Allowed plan) =
-    deposit_silent s owner reference bytes (stamping_of s owner plan octets o b (no_number o b))
-
-under_silent : (s : Setting) (a : AccountValue) (reading : ℤ) (reference bytes : List ℕ) (o : Outcome) (b : History)
-    (under : Option DepositRow) (e : Effect) → KeepsByReference s a reading reference bytes o b under e → IsSilent e
-under_silent s a reading reference bytes o b (Some d) e is =
-    subst IsSilent (sym is) (λ c h n reader same. same)
-under_silent s a reading reference bytes o b None e is =
-    subst IsSilent (sym is.1.2) (deposit_found_silent s a.name reference bytes (octets_for s.file a bytes) o b is.1.0)
-
-unless_silent : (s : Setting) (a : AccountValue) (reading : ℤ) (reference bytes : List ℕ) (o : Outcome) (b : History)
-    (refused : Option Cause) (e : Effect) → KeepsOnceSearched s a reading reference bytes o b refused e → IsSilent e
-unless_silent s a reading reference bytes o b (Some cause) e is =
-    subst IsSilent (sym is) (λ c h n reader same. same)
-unless_silent s a reading reference bytes o b None e is =
-    under_silent s a reading reference bytes o b (deposit_under a.name reference b) e is
-
-keeps_silent : (s : Setting) (a : AccountValue) (reading : ℤ) (reference bytes : List ℕ) (o : Outcome) (b : History)
-    (short : Bool) (e : Effect) → KeepsWithinSize s a reading reference bytes o b short e → IsSilent e
-keeps_silent s a reading reference bytes o b true e is =
-    unless_silent s a reading reference bytes o b (cause_of o.searching) e is
-keeps_silent s a reading reference bytes o b false e is =
-    subst IsSilent (sym is) (λ c h n reader same. same)
 
 -- an identity that is installed is no right
 succeeded_silent : (o : Outcome) (i : InstalledValue) (latest : Bool) → IsSilent (succeed_effect o i latest)
@@ -142,7 +107,7 @@ right_of entry c e d by same h =
 step_rights : (s : Setting) (c : Command) (o : Outcome) (b : History) (e : Effect) → HasEffect s c o b e
     → SameRights e.adds (rights_by c e.says)
 step_rights s (Stamp account reading octets) o b e h =
-    subst IsSilent (sym h.2) (stamp_found_silent s (name_of account) octets o b h.0)
+    subst IsSilent (sym h.2) (stamp_silent for_reply (λ r token c k n reader e. e) s (name_of account) octets o b h.0)
 step_rights s (Begin account reading octets) o b e h =
     subst IsSilent (sym h.2) (begin_found_silent s (name_of account) octets o b h.0)
 step_rights s (Finish p signature) o b e h =
@@ -150,7 +115,9 @@ step_rights s (Finish p signature) o b e h =
     (unless_has IsSilent refused_silent (no_seal o) (finish_effect p signature) (λ c k n account same. same))
 step_rights s (Abandon p) o b e h = subst IsSilent (sym h) (λ c k n account same. same)
 step_rights s (Deposit a reading reference bytes) o b e h =
-    keeps_silent s a reading reference bytes o b (nat_le (length bytes) 1_048_576) e h
+    deposit_has IsSilent refused_silent s a reading reference bytes o b (λ d is c k n reader e. e)
+    (λ unused spelled f found. stamp_silent (for_deposit a.name reference bytes) (λ r token c k n reader e. e) s a.name
+    (octets_for s.file a bytes) o b f) (nat_le (length bytes) 1_048_576) e h
 step_rights s (Show a n) o b e h =
     none_silent e (ap (λ x. x.adds) h ∙ shows_none (cause_of o.searching) _ (seen_by (viewer_in s.file a.name) n b))
 step_rights s (Token a n) o b e h =

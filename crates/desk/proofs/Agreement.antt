@@ -1,6 +1,6 @@
 -- Histories that agree for an account agree again after its commands.
-use Rattle.std.proofs.Common.{◌≡◌, ℕ, ◌<◌, ◌==◌, ◌||◌, ◌⊎◌, max, nat_le, cond, ℤ, Bool, true, false, List, []}
-use Rattle.std.proofs.Common.{◌∷◌, ◌++◌, length, Option, Some, None, Result, Ok, Err, refl, sym, ◌∙◌, ap, subst, inl}
+use Rattle.std.proofs.Common.{◌≡◌, ℕ, ◌<◌, ◌==◌, ◌||◌, ◌⊎◌, max, nat_le, cond, Bool, true, false, List, []}
+use Rattle.std.proofs.Common.{◌∷◌, ◌++◌, length, Option, Some, None, refl, sym, ◌∙◌, ap, subst, inl}
 use Rattle.std.proofs.Common.{inr, arith}
 use Rattle.std.specs.Prelude.{filter, map, option_map}
 use Rattle.std.specs.Option.{option_and_then}
@@ -8,26 +8,23 @@ use Rattle.std.specs.Str.{bytes_eq}
 use Rattle.std.proofs.lemmas.Bool.{eq-eqb, eqb-true}
 use Rattle.std.proofs.lemmas.Slice.Eq.{bytes_eq-Decides}
 use Rattle.policy.specs.Record.{AccountValue, PolicyValue}
-use Rattle.cms.specs.declared.signer.SignerFault.{SignerFault}
-use Rattle.cms.specs.declared.signer.SignerFault.TheVariants as signer
 use Rattle.book.specs.Rows.{StampRow, DepositRow}
 use Rattle.book.specs.History.{Entry, Reserved, Sealed, Deposited, Granted, Revoked, History, ReservationValue}
 use Rattle.book.specs.History.{reservations, stamps, stamp_of, greatest_serial, token_of, reservation_at, deposit_at}
-use Rattle.book.specs.History.{deposit_under}
 use Rattle.book.specs.Readers.{Reader, Viewer}
 use Rattle.book.specs.Rights.{seen_by, shown_to, may_read, listed}
 use Rattle.book.specs.Sound.{Along, Fits}
 use Rattle.book.specs.Values.{deposit_of}
 use Rattle.desk.specs.Agreement.{SeenValue, seen_as, Agree, IsCommandOf}
-use Rattle.desk.specs.Outcome.{Outcome, Cause, cause_of}
-use Rattle.desk.specs.Findings.{StampPlan, Finding, Fails, Unanswered, Allowed}
-use Rattle.desk.specs.Command.{Setting, PendingValue, Command, Stamp, Begin, Finish, Abandon, Deposit, Show, Token}
+use Rattle.desk.specs.Outcome.{Outcome, cause_of}
+use Rattle.desk.specs.Findings.{StampPlan, Finding}
+use Rattle.desk.specs.Command.{Setting, Command, Stamp, Begin, Finish, Abandon, Deposit, Show, Token}
 use Rattle.desk.specs.Command.{ListAll, Grant, Revoke, Calibrate, Hold, Succeed, Listed}
-use Rattle.desk.specs.Texts.{octets_for, pending_of, token_with}
-use Rattle.desk.specs.Effects.{Effect, unless, Stamping, Unreserved, Void, Sealing, no_number, no_seal}
-use Rattle.desk.specs.Effects.{next_reservation, sealed_or_void, signed_or_void, stamping_of, stamp_effect, stamp_found}
-use Rattle.desk.specs.Effects.{deposit_effect, deposit_found, right_effect, no_sight}
-use Rattle.desk.specs.MachineStep.{KeepsByReference, KeepsOnceSearched, KeepsWithinSize, HasEffect}
+use Rattle.desk.specs.Texts.{octets_for}
+use Rattle.desk.specs.Effects.{Effect, unless}
+use Rattle.desk.specs.Effects.{next_reservation}
+use Rattle.desk.specs.Effects.{right_effect, no_sight}
+use Rattle.desk.specs.MachineStep.{HasEffect}
 use Rattle.desk.proofs.Views.{unsealed_above, sealed_below, deposit_sealed}
 use Rattle.desk.specs.Viewers.{viewer_in}
 use Rattle.desk.proofs.Branches.{unless_has, right_has}
@@ -35,6 +32,8 @@ use Rattle.desk.proofs.Readers.{IsOwn, owner_sees, seen_after_grant, seen_after_
 use Rattle.desk.proofs.SameEffect.{seen_same}
 use Rattle.desk.proofs.Sighted.{may_see}
 use Rattle.desk.proofs.StepFacts.{right_seen, shows_none, tokens_none, answers_none}
+use Rattle.desk.specs.Effects.{Purpose, purpose_found, for_reply, for_deposit}
+use Rattle.desk.proofs.Branches.{stamp_has, deposit_has}
 
 differ_by : (m n : ℕ) (same : Bool) → (m == n) ≡ same → n < m → same ≡ false
 differ_by m n true e h = let number : m ≡ n = eqb-true m n e in absurd (omega arith)
@@ -225,122 +224,32 @@ agree_revoked viewer b c n x own agree = record {
   shared = agree.shared;
 }
 
--- what a stamping reserves is the next reservation
-abbrev pub IsNext : ReservationValue → Stamping → Type 0
-IsNext next (Unreserved cause) = Unit {0}
-IsNext next (Void r cause) = r ≡ next
-IsNext next (Sealing r token) = r ≡ next
-
-next_sealed : (r : ReservationValue) (token : List ℕ) (refused : Option Cause)
-    → IsNext r (sealed_or_void r token refused)
-next_sealed r token None = refl
-next_sealed r token (Some cause) = refl
-
-next_signed : (p : PendingValue) (r : ReservationValue) (o : Outcome) (signing : Result (List ℕ) SignerFault)
-    → IsNext r (signed_or_void p r signing o)
-next_signed p r o (Ok signature) = next_sealed r (token_with p signature) (no_seal o)
-next_signed p r o (Err signer.Failed) = refl
-next_signed p r o (Err signer.Memory) = refl
-
-pub next_stamping : (s : Setting) (account : List ℕ) (plan : StampPlan) (octets : List ℕ) (o : Outcome)
-    (b : History) (refused : Option Cause)
-    → IsNext (next_reservation s account plan octets b) (stamping_of s account plan octets o b refused)
-next_stamping s account plan octets o b (Some cause) = tt
-next_stamping s account plan octets o b None =
-    let r = next_reservation s account plan octets b in next_signed (pending_of s plan r) r o o.signing
-
-above_of : (r next : ReservationValue) (n : ℕ) → r ≡ next → n < next.serial → n < r.serial
-above_of r next n e h = subst (λ x. n < x.serial) (sym e) h
-
-stamp_agrees : (viewer : Viewer) (s : Setting) (b c : History) → Along Fits b → Along Fits c → Agree viewer b c
-    → (next : ReservationValue) → greatest_serial b < next.serial
-    → (st : Stamping) → IsNext next st → Agree viewer ((stamp_effect s st).adds ++ b) ((stamp_effect s st).adds ++ c)
-stamp_agrees viewer s b c one other agree next above (Unreserved cause) h = agree
-stamp_agrees viewer s b c one other agree next above (Void r cause) h =
-    agree_reserved viewer b c r one other agree (above_of r next (greatest_serial b) h above)
-stamp_agrees viewer s b c one other agree next above (Sealing r token) h =
-    agree_sealed viewer (Reserved r ∷ b) (Reserved r ∷ c) r.serial token
-    (agree_reserved viewer b c r one other agree (above_of r next (greatest_serial b) h above))
+pub next_above : (s : Setting) (account : List ℕ) (plan : StampPlan) (octets : List ℕ) (b : History)
+    → greatest_serial b < (next_reservation s account plan octets b).serial
+next_above s account plan octets b = omega arith
 
 just_reserved : (r : ReservationValue) (b c : History) → reservation_at r.serial (Reserved r ∷ b)
     ≡ reservation_at r.serial (Reserved r ∷ c)
 just_reserved r b c = rw (eq-eqb r.serial r.serial refl)
 
-deposit_agrees : (viewer : Viewer) (s : Setting) (owner reference bytes : List ℕ) (b c : History) → owner ≡ viewer.name
-    → Along Fits b → Along Fits c → Agree viewer b c
-    → (next : ReservationValue) → greatest_serial b < next.serial → (st : Stamping) → IsNext next st
-    → Agree viewer ((deposit_effect s owner reference bytes st).adds ++ b)
-    ((deposit_effect s owner reference bytes st).adds ++ c)
-deposit_agrees viewer s owner reference bytes b c mine one other agree next above (Unreserved cause) h = agree
-deposit_agrees viewer s owner reference bytes b c mine one other agree next above (Void r cause) h =
-    agree_reserved viewer b c r one other agree (above_of r next (greatest_serial b) h above)
-deposit_agrees viewer s owner reference bytes b c mine one other agree next above (Sealing r token) h =
-    agree_deposited viewer (Reserved r ∷ b) (Reserved r ∷ c) (deposit_of r.serial owner reference bytes) token
-    ((bytes_eq-Decides owner viewer.name).1 mine) (just_reserved r b c)
-    (agree_reserved viewer b c r one other agree (above_of r next (greatest_serial b) h above))
+-- a token is kept alike after its reservation
+abbrev AgreesKept : Viewer → Purpose → History → History → Type 0
+AgreesKept viewer u b c = (r : ReservationValue) (token : List ℕ) → Agree viewer (Reserved r ∷ b) (Reserved r ∷ c)
+    → Agree viewer (u.keeping.adds r.serial token ∷ Reserved r ∷ b) (u.keeping.adds r.serial token ∷ Reserved r ∷ c)
 
-pub next_above : (s : Setting) (account : List ℕ) (plan : StampPlan) (octets : List ℕ) (b : History)
-    → greatest_serial b < (next_reservation s account plan octets b).serial
-next_above s account plan octets b = omega arith
-
-stamp_found_agrees : (viewer : Viewer) (s : Setting) (name octets : List ℕ) (o : Outcome) (b c : History)
-    → Along Fits b → Along Fits c → Agree viewer b c → (f : Finding)
-    → Agree viewer ((stamp_found s name octets o b f).adds ++ b) ((stamp_found s name octets o b f).adds ++ c)
-stamp_found_agrees viewer s name octets o b c one other agree (Fails rule) = agree
-stamp_found_agrees viewer s name octets o b c one other agree (Unanswered cause) = agree
-stamp_found_agrees viewer s name octets o b c one other agree (Allowed plan) =
-    stamp_agrees viewer s b c one other agree (next_reservation s name plan octets b)
-    (next_above s name plan octets b)
-    (stamping_of s name plan octets o b (no_number o b)) (next_stamping s name plan octets o b (no_number o b))
-
-deposit_found_agrees : (viewer : Viewer) (s : Setting) (owner reference bytes octets : List ℕ) (o : Outcome)
-    (b c : History) → owner ≡ viewer.name → Along Fits b → Along Fits c
-    → Agree viewer b c → (f : Finding)
-    → Agree viewer ((deposit_found s owner reference bytes octets o b f).adds ++ b)
-    ((deposit_found s owner reference bytes octets o b f).adds ++ c)
-deposit_found_agrees viewer s owner reference bytes octets o b c mine one other agree (Fails rule) = agree
-deposit_found_agrees viewer s owner reference bytes octets o b c mine one other agree (Unanswered cause) = agree
-deposit_found_agrees viewer s owner reference bytes octets o b c mine one other agree (Allowed plan) =
-    deposit_agrees viewer s owner reference bytes b c mine one other agree (next_reservation s owner plan octets b)
-    (next_above s owner plan octets b)
-    (stamping_of s owner plan octets o b (no_number o b)) (next_stamping s owner plan octets o b (no_number o b))
+stamp_agrees : (viewer : Viewer) (u : Purpose) (s : Setting) (name octets : List ℕ) (o : Outcome) (b c : History)
+    → Along Fits b → Along Fits c → Agree viewer b c → AgreesKept viewer u b c → (f : Finding)
+    → Agree viewer ((purpose_found u s name octets o b f).adds ++ b) ((purpose_found u s name octets o b f).adds ++ c)
+stamp_agrees viewer u s name octets o b c one other agree kept f =
+    stamp_has (λ e. Agree viewer (e.adds ++ b) (e.adds ++ c)) u s name octets o b (λ rule. agree) (λ cause. agree) f
+    (λ plan is left.
+    let r = next_reservation s name plan octets b in
+    let reserved = agree_reserved viewer b c r one other agree (next_above s name plan octets b) in
+    (λ cause. reserved, λ token. kept r token reserved))
 
 none_agrees : (viewer : Viewer) (e : Effect) (b c : History) → Agree viewer b c → e.adds ≡ []
     → Agree viewer (e.adds ++ b) (e.adds ++ c)
 none_agrees viewer e b c agree h = subst (λ es. Agree viewer (es ++ b) (es ++ c)) (sym h) agree
-
-keeps_under_agrees : (viewer : Viewer) (s : Setting) (a : AccountValue) (reading : ℤ) (reference bytes : List ℕ)
-    (o : Outcome) (b c : History) (e : Effect)
-    → a.name ≡ viewer.name → Along Fits b → Along Fits c → Agree viewer b c → (known : Option DepositRow)
-    → KeepsByReference s a reading reference bytes o b known e
-    → Agree viewer (e.adds ++ b) (e.adds ++ c)
-keeps_under_agrees viewer s a reading reference bytes o b c e mine one other agree
-    (Some d) h = none_agrees viewer e b c agree (ap (λ x. x.adds) h)
-keeps_under_agrees viewer s a reading reference bytes o b c e mine one other agree None h =
-    subst (λ x. Agree viewer (x.adds ++ b) (x.adds ++ c)) (sym h.1.2)
-    (deposit_found_agrees viewer s a.name reference bytes
-    (octets_for s.file a bytes) o b c mine one other agree h.1.0)
-
-keeps_unless_agrees : (viewer : Viewer) (s : Setting) (a : AccountValue) (reading : ℤ) (reference bytes : List ℕ)
-    (o : Outcome) (b c : History) (e : Effect)
-    → a.name ≡ viewer.name → Along Fits b → Along Fits c → Agree viewer b c → (refused : Option Cause)
-    → KeepsOnceSearched s a reading reference bytes o b refused e
-    → Agree viewer (e.adds ++ b) (e.adds ++ c)
-keeps_unless_agrees viewer s a reading reference bytes o b c e mine one other agree
-    (Some cause) h = none_agrees viewer e b c agree (ap (λ x. x.adds) h)
-keeps_unless_agrees viewer s a reading reference bytes o b c e mine one other agree None h =
-    keeps_under_agrees viewer s a reading reference bytes o b c e mine one other agree
-    (deposit_under a.name reference b) h
-
-keeps_agrees : (viewer : Viewer) (s : Setting) (a : AccountValue) (reading : ℤ) (reference bytes : List ℕ)
-    (o : Outcome) (b c : History) (e : Effect)
-    → a.name ≡ viewer.name → Along Fits b → Along Fits c → Agree viewer b c → (short : Bool)
-    → KeepsWithinSize s a reading reference bytes o b short e
-    → Agree viewer (e.adds ++ b) (e.adds ++ c)
-keeps_agrees viewer s a reading reference bytes o b c e mine one other agree true h =
-    keeps_unless_agrees viewer s a reading reference bytes o b c e mine one other agree (cause_of o.searching) h
-keeps_agrees viewer s a reading reference bytes o b c e mine one other agree false h = none_agrees viewer e b c
-    agree (ap (λ x. x.adds) h)
 
 -- what a right's command adds: nothing, or the right to a deposit of its own
 abbrev AddsRight : Viewer → ℕ → History → Entry → Effect → Type 0
@@ -390,13 +299,21 @@ pub step_agrees : (account : List ℕ) (s : Setting) (x : Command) (o : Outcome)
 step_agrees account s (Stamp None reading octets) o b c e one other agree mine h = absurd mine
 step_agrees account s (Stamp (Some a) reading octets) o b c e one other agree mine h =
     subst (λ x. Agree (viewer_in s.file account) (x.adds ++ b) (x.adds ++ c)) (sym h.2)
-    (stamp_found_agrees (viewer_in s.file account) s a.name octets o b c one other agree h.0)
+    (stamp_agrees (viewer_in s.file account) for_reply s a.name octets o b c one other agree
+    (λ r token reserved. agree_sealed (viewer_in s.file account) (Reserved r ∷ b) (Reserved r ∷ c) r.serial token
+    reserved) h.0)
 step_agrees account s (Begin by reading octets) o b c e one other agree mine h = absurd mine
 step_agrees account s (Finish p signature) o b c e one other agree mine h = absurd mine
 step_agrees account s (Abandon p) o b c e one other agree mine h = absurd mine
 step_agrees account s (Deposit a reading reference bytes) o b c e one other agree mine h =
-    keeps_agrees (viewer_in s.file account) s a reading reference bytes o b c e mine one other agree
-    (nat_le (length bytes) 1_048_576) h
+    let viewer = viewer_in s.file account in
+    deposit_has (λ x. Agree viewer (x.adds ++ b) (x.adds ++ c)) (λ f. agree) s a reading reference bytes o b
+    (λ d is. agree)
+    (λ unused spelled f found. stamp_agrees viewer (for_deposit a.name reference bytes) s a.name
+    (octets_for s.file a bytes) o b c one other agree
+    (λ r token reserved. agree_deposited viewer (Reserved r ∷ b) (Reserved r ∷ c)
+    (deposit_of r.serial a.name reference bytes) token ((bytes_eq-Decides a.name viewer.name).1 mine)
+    (just_reserved r b c) reserved) f) (nat_le (length bytes) 1_048_576) e h
 step_agrees account s (Show a n) o b c e one other agree mine h =
     none_agrees (viewer_in s.file account) e b c agree (ap (λ x. x.adds) h
     ∙ shows_none (cause_of o.searching) (no_sight o) (seen_by (viewer_in s.file a.name) n b))

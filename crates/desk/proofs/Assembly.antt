@@ -1,11 +1,9 @@
 -- Stamps that were judged, reserved and completed together are a batch of the machine.
-use Rattle.std.proofs.Common.{◌≡◌, ℕ, ◌<◌, ◌≤◌, List, [], ◌∷◌, ◌++◌, map, Option, Some, None, Result, Ok, Err}
+use Rattle.std.proofs.Common.{◌≡◌, ℕ, ◌<◌, ◌≤◌, List, [], ◌∷◌, ◌++◌, map, Option, None, Result, Ok, Err}
 use Rattle.std.proofs.Common.{refl, sym, ap, ◌∙◌, subst, arith}
 use Rattle.std.specs.List.{AllByRecursion}
-use Rattle.std.proofs.lemmas.Bool.{eq-eqb}
 use Rattle.tsp.specs.declared.rule.Rule.{Rule}
 use Rattle.tsp.specs.declared.rule.Rule.TheVariants.{System}
-use Rattle.cms.specs.SignedData.{attribute_text}
 use Rattle.cms.specs.Signer.{count_after, count_after_each, SignsEach}
 use Rattle.cms.specs.declared.signer.SignerFault.{SignerFault}
 use Rattle.cms.specs.declared.signer.SignerFault.TheVariants as signer
@@ -16,22 +14,23 @@ use Rattle.desk.specs.Batches.{Question, stamp_for, seals, with_reserved, HaveEf
 use Rattle.desk.specs.Batches.{all_reserved, all_sealed, MoveInTurn}
 use Rattle.desk.specs.Command.{Setting, PendingValue, Answer, Rejected}
 use Rattle.desk.specs.Completions.{Completion, finished, completed, seals_of, texts_of, AreWaiting}
-use Rattle.desk.specs.Effects.{Effect, only, no_number, no_seal, next_reservation, stamping_of, stamp_effect, name_of}
+use Rattle.desk.specs.Effects.{Effect, only, no_number, next_reservation, stamping_of, stamp_effect, name_of, in_seal}
+use Rattle.desk.specs.Effects.{for_reply}
 use Rattle.desk.specs.Findings.{Allowed}
 use Rattle.desk.specs.Fit.{IsFit, IsUncounted}
 use Rattle.desk.specs.Outcome.{Call, Fine, Outcome, Cause, all_fine}
-use Rattle.desk.specs.MachineStep.{HasEffect, IsWaiting, Moves}
+use Rattle.desk.specs.MachineStep.{HasEffect, IsWaiting}
 use Rattle.desk.specs.Texts.{pending_of}
 use Rattle.desk.specs.Together.{Awaits, Verdict, Settled, Waits, JudgedStamp, rule_of, rules_of, met_by, waiting_before}
 use Rattle.desk.specs.Together.{waits_of, reserved_for, IsJudgedAs, AreJudged, IsJudgedRightly, AreFit, merged}
 use Rattle.desk.specs.WaitingStamps.{waiting_view, pending_in, pendings_in, with_waiting}
-use Rattle.desk.specs.Wholes.{joined, sealed_by, stamped}
+use Rattle.desk.specs.Wholes.{joined, ending, added, stamped}
 use Rattle.desk.specs.declared.waiting_stamp.Waiting.{Waiting}
 use Rattle.desk.proofs.BatchJudgement.{waiting_fits, with_before, fits_stamp}
 use Rattle.desk.proofs.CompletionLemmas.{void_one}
 use Rattle.desk.proofs.Reserves.{left_number}
 use Rattle.desk.proofs.Stamps.{finds_joined, stamped_by}
-use Rattle.desk.proofs.Views.{unsealed_above, reservation_stays}
+use Rattle.desk.proofs.Views.{fits_seal, reservation_stays}
 
 abbrev pub questions_of : List JudgedStamp → List Question
 questions_of js = map (λ j. j.question) js
@@ -67,7 +66,7 @@ outcome_in sealing (Waits w) zs = joined (all_fine (Ok [])) (signing_of zs) (fin
 abbrev pub effect_in : Setting → Call → Verdict → List Completion → Effect
 effect_in s sealing (Settled rule o) zs = only (Rejected rule)
 effect_in s sealing (Waits w) zs =
-    stamped (pending_in s w) (signing_of zs) (Reserved (waiting_view w) ∷ []) (finish_of sealing zs)
+    stamped for_reply (pending_in s w) (signing_of zs) (Reserved (waiting_view w) ∷ []) (finish_of sealing zs)
 
 abbrev pub outcomes_of : Call → List JudgedStamp → List Completion → List Outcome
 outcomes_of sealing [] zs = []
@@ -79,35 +78,27 @@ effects_of s sealing [] zs = []
 effects_of s sealing (j ∷ js) zs =
     effect_in s sealing j.verdict zs ∷ effects_of s sealing js (behind j.verdict zs)
 
--- what a stamp that waited does besides its reservation is what its completion does
-sealed_besides : (p : PendingValue) (signature : List ℕ) (r : ReservationValue) (why : Option Cause)
-    → (reservations (sealed_by p signature (Reserved r ∷ []) why).adds ≡ r ∷ [])
-    × ((seals (sealed_by p signature (Reserved r ∷ []) why).adds ≡ seals (sealed_by p signature [] why).adds)
-    × ((sealed_by p signature (Reserved r ∷ []) why).says ≡ (sealed_by p signature [] why).says))
-sealed_besides p signature r None = (refl, (refl, refl))
-sealed_besides p signature r (Some cause) = (refl, (refl, refl))
-
-besides : (p : PendingValue) (signing : Result (List ℕ) SignerFault) (r : ReservationValue) (o : Outcome)
-    → (reservations (stamped p signing (Reserved r ∷ []) o).adds ≡ r ∷ [])
-    × ((seals (stamped p signing (Reserved r ∷ []) o).adds ≡ seals (stamped p signing [] o).adds)
-    × ((stamped p signing (Reserved r ∷ []) o).says ≡ (stamped p signing [] o).says))
-besides p (Ok signature) r o = sealed_besides p signature r (no_seal o)
-besides p (Err fault) r o = (refl, (refl, refl))
+-- what a stamp that waited adds besides its reservation
+besides : (serial : ℕ) (end : Result (List ℕ) Cause) (r : ReservationValue)
+    → (reservations (added in_seal serial end ++ (Reserved r ∷ [])) ≡ r ∷ [])
+    × (seals (added in_seal serial end ++ (Reserved r ∷ [])) ≡ seals (added in_seal serial end ++ []))
+besides serial (Ok token) r = (refl, refl)
+besides serial (Err cause) r = (refl, refl)
 
 -- the effect of a stamp that waited
 waited : (s : Setting) (a : Question) (b : History) (w : Waiting) (signing : Result (List ℕ) SignerFault) (o : Outcome)
     → Awaits s a b w
     → HasEffect s (stamp_for a) (joined (all_fine (Ok [])) signing o) b
-    (stamped (pending_in s w) signing (Reserved (waiting_view w) ∷ []) o)
+    (stamped for_reply (pending_in s w) signing (Reserved (waiting_view w) ∷ []) o)
 waited s a b w signing o h =
     let r = next_reservation s (name_of a.account) h.plan a.octets b in
     let whole = joined (all_fine (Ok [])) signing o in
     let why : no_number whole b ≡ None = left_number whole b h.left in (
       Allowed h.plan,
       finds_joined s a.account a.reading a.octets (all_fine (Ok [])) o signing b (Allowed h.plan) h.found,
-      ap (λ p. stamped p signing (Reserved (waiting_view w) ∷ []) o) h.pending
-          ∙ (ap (λ x. stamped (pending_of s h.plan x) signing (Reserved x ∷ []) o) h.reserves
-          ∙ (stamped_by s h.plan r (all_fine (Ok [])) o signing
+      ap (λ p. stamped for_reply p signing (Reserved (waiting_view w) ∷ []) o) h.pending
+          ∙ (ap (λ x. stamped for_reply (pending_of s h.plan x) signing (Reserved x ∷ []) o) h.reserves
+          ∙ (stamped_by for_reply s h.plan r (all_fine (Ok [])) o signing
           ∙ ap (λ x. stamp_effect s (stamping_of s (name_of a.account) h.plan a.octets whole b x)) (sym why))),
     )
 
@@ -121,7 +112,7 @@ reserves_one : (s : Setting) (sealing : Call) (v : Verdict) (zs : List Completio
 reserves_one s sealing (Settled rule o) zs b = refl
 reserves_one s sealing (Waits w) zs b =
     ap (λ rs. with_reserved rs b)
-    (besides (pending_in s w) (signing_of zs) (waiting_view w) (finish_of sealing zs)).0
+    (besides w.prepared.serial (ending (pending_in s w) (signing_of zs) (finish_of sealing zs)) (waiting_view w)).0
 
 pub have_effects : (s : Setting) (sealing : Call) (js : List JudgedStamp) (zs : List Completion) (b : History)
     → AreJudged s js b
@@ -141,7 +132,8 @@ reserves_step : (s : Setting) (sealing : Call) (v : Verdict) (zs : List Completi
     → reservations (effect_in s sealing v zs).adds ++ rs ≡ map waiting_view (waiting_before v ws)
 reserves_step s sealing (Settled rule o) zs ws rs is = is
 reserves_step s sealing (Waits w) zs ws rs is =
-    ap (λ one. one ++ rs) (besides (pending_in s w) (signing_of zs) (waiting_view w) (finish_of sealing zs)).0
+    ap (λ one. one ++ rs)
+    (besides w.prepared.serial (ending (pending_in s w) (signing_of zs) (finish_of sealing zs)) (waiting_view w)).0
     ∙ ap (λ others. waiting_view w ∷ others) is
 
 pub reserves_all : (s : Setting) (sealing : Call) (js : List JudgedStamp) (zs : List Completion)
@@ -175,8 +167,8 @@ seals_step s sealing (Waits w) [] ws es of rest = absurd cc
 seals_step s sealing (Waits w) (z ∷ zs) ws es of rest =
     let is = (first_of z.pending (pending_in s w) (pendings_of zs) (pendings_in s ws) of).0 in
     ap (λ one. one ++ all_sealed es)
-    ((besides (pending_in s w) z.signing (waiting_view w) (finished sealing z)).1.0
-    ∙ ap (λ p. seals (stamped p z.signing [] (finished sealing z)).adds) (sym is))
+    ((besides w.prepared.serial (ending (pending_in s w) z.signing (finished sealing z)) (waiting_view w)).1
+    ∙ ap (λ p. seals (stamped for_reply p z.signing [] (finished sealing z)).adds) (sym is))
     ∙ ap (λ others. seals (completed sealing z).adds ++ others) rest
 
 pub seals_all : (s : Setting) (sealing : Call) (js : List JudgedStamp) (zs : List Completion) → AreOf s js zs
@@ -199,8 +191,7 @@ says_step s (Waits w) [] ws vs answers of rest = absurd cc
 says_step s (Waits w) (z ∷ zs) ws vs answers of rest =
     let is = (first_of z.pending (pending_in s w) (pendings_of zs) (pendings_in s ws) of).0 in
     ap (λ one. one ∷ answers)
-    ((besides (pending_in s w) z.signing (waiting_view w) (finished Fine z)).1.1
-    ∙ ap (λ p. (stamped p z.signing [] (finished Fine z)).says) (sym is))
+    (ap (λ p. (stamped for_reply p z.signing [] (finished Fine z)).says) (sym is))
     ∙ ap (λ others. (completed Fine z).says ∷ others) rest
 
 pub says_all : (s : Setting) (js : List JudgedStamp) (zs : List Completion) → AreOf s js zs
@@ -234,20 +225,6 @@ says_void s sealing h (j ∷ js) zs =
     (says_void s sealing h js zs')
 
 -- a stamp that waited moves the signer by its text
-moves_by : {S : Type 0} (signs : S → List ℕ → Result (List ℕ) SignerFault → S → Type 0) (p : PendingValue)
-    (r : ReservationValue) (signature : List ℕ) (why : Option Cause) (x y : S)
-    → signs x (attribute_text p.identity p.tst) (Ok signature) y
-    → Moves signs (sealed_by p signature (Reserved r ∷ []) why).asks (Ok signature) x y
-moves_by signs p r signature None x y h = h
-moves_by signs p r signature (Some cause) x y h = h
-
-moves_one : {S : Type 0} (signs : S → List ℕ → Result (List ℕ) SignerFault → S → Type 0) (p : PendingValue)
-    (r : ReservationValue) (signing : Result (List ℕ) SignerFault) (o : Outcome) (x y : S)
-    → signs x (attribute_text p.identity p.tst) signing y
-    → Moves signs (stamped p signing (Reserved r ∷ []) o).asks signing x y
-moves_one signs p r (Ok signature) o x y h = moves_by signs p r signature (no_seal o) x y h
-moves_one signs p r (Err fault) o x y h = h
-
 move_step : {S : Type 0} (signs : S → List ℕ → Result (List ℕ) SignerFault → S → Type 0) (s : Setting)
     (sealing : Call) (v : Verdict) (zs : List Completion) (ws : List Waiting) (es : List Effect) (os : List Outcome)
     (x y : S) → SignsEach signs x (texts_of (pendings_in s (waiting_before v ws))) (signings_of zs) y
@@ -259,7 +236,7 @@ move_step signs s sealing (Waits w) [] ws es os x y moves rest = absurd moves
 move_step signs s sealing (Waits w) (z ∷ zs) ws es os x y moves rest = (
   moves.0,
   (
-    moves_one signs (pending_in s w) (waiting_view w) z.signing (finished sealing z) x moves.0 moves.1.0,
+    moves.1.0,
     rest moves.0 moves.1.1,
   ),
 )
@@ -363,17 +340,6 @@ rise_among s (j ∷ js) b n h most =
     rise_step s j.question j.verdict (waits_of js) b n h.0 most
     (λ more. rise_among s js (reserved_for j.verdict b) n h.1 more)
 
-waits_once_reserved : (s : Setting) (w : Waiting) (b : History) → FitsReserved (waiting_view w) b → IsSound b
-    → IsWaiting (pending_in s w) (Reserved (waiting_view w) ∷ b)
-waits_once_reserved s w b fits sound =
-    let r = waiting_view w in
-    record {
-      reservation = r;
-      reserved = rw (eq-eqb r.serial r.serial refl) refl;
-      tst = refl;
-      open_yet = unsealed_above b sound r.serial fits.rises;
-    }
-
 wait_step : (s : Setting) (a : Question) (v : Verdict) (js : List JudgedStamp) (b : History) → IsSound b
     → IsJudgedAs s a v b → AreJudged s js (reserved_for v b)
     → (IsSound (reserved_for v b)
@@ -383,8 +349,14 @@ wait_step s a (Settled rule o) js b sound h others rest = rest sound
 wait_step s a (Waits w) js b sound h others rest =
     let fits = waiting_fits s a b w h in
     let r = waiting_view w in
+    let seal = fits_seal r b sound fits.rises in
     let most : w.prepared.serial ≤ greatest_serial (Reserved r ∷ b) = omega arith in (
-      stays_among s js (Reserved r ∷ b) (pending_in s w) others (waits_once_reserved s w b fits sound),
+      stays_among s js (Reserved r ∷ b) (pending_in s w) others (record {
+        reservation = r;
+        reserved = seal.reserved;
+        tst = refl;
+        open_yet = seal.open_yet;
+      }),
       rise_among s js (Reserved r ∷ b) w.prepared.serial others most,
       rest (fits, sound),
     )

@@ -315,7 +315,7 @@ judged_allowed g s a ws plan last told old new awaited looks counted finds is_la
 -- none fails, but the commit of its reservation was refused
 pub judged_refused : {B : Type 0} (g : Ghosts B) (s : Setting) (a : Question) (plan : StampPlan) (reserving : Call)
     (old new : B) → (reserving ≡ Fine → ⊥) → OnlyLooks g old new → g.fault_count new ≡ g.fault_count old
-    → (g.honest new → (b : History) → Stands g b old
+    → (g.honest new → (b : History) → Stands g b old → IsSound b
     → Finds s.file a.account a.reading a.octets (all_fine (Ok [])) b (Allowed plan))
     → ((other : Rule) → IsFirstFailing (HoldsUnasked s.file a.account a.octets) other → Allowed plan ≡ Fails other)
     → JudgesOne g s a [] (judged.Fails System) old new
@@ -334,7 +334,7 @@ judged_refused g s a plan reserving old new refusal looks counted finds unasked 
       counted = counted;
       judged = λ honest b stands sound.
           let why = no_number_refused o b refusal in
-          unreserved s a plan o b why.0 (finds honest b stands) refl refl why.1;
+          unreserved s a plan o b why.0 (finds honest b stands sound) refl refl why.1;
     }
 
 -- texts can't be written: no serial number is left, or memory wants

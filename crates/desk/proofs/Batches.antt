@@ -3,7 +3,6 @@ use Rattle.std.proofs.Common.{◌≡◌, ℕ, ◌<◌, ◌==◌, ℤ, List, [], 
 use Rattle.std.proofs.Common.{Ok, Err, refl, sym, ◌∙◌, ap, subst, inl, inr, arith, length, drop, count_by}
 use Rattle.std.specs.List.{find, cons_option}
 use Rattle.std.proofs.lemmas.List.{append-nil, map-append}
-use Rattle.std.proofs.lemmas.Bool.{eq-eqb}
 use Rattle.policy.specs.Record.{AccountValue, PolicyValue}
 use Rattle.cms.specs.SignedData.{attribute_text}
 use Rattle.cms.specs.declared.signer.SignerFault.{SignerFault}
@@ -28,10 +27,12 @@ use Rattle.desk.specs.Wholes.{joined}
 use Rattle.desk.specs.Batches.{Question, stamp_for, stamps_for, SealValue, seals, seal_entry, with_reserved}
 use Rattle.desk.specs.Batches.{with_sealed, HaveEffects, all_reserved, all_sealed, batch_of, MoveInTurn}
 use Rattle.desk.specs.Batches.{after_batch, once_reserved, IsRunTogether, IsLeftInBatch, IsCutTogether}
-use Rattle.desk.proofs.SameEffect.{finds_same, stamp_found_same, held_same}
+use Rattle.desk.proofs.SameEffect.{finds_same, found_same, held_same}
 use Rattle.desk.proofs.Sound.{gen_time_bound, number_left, not_full}
 use Rattle.desk.proofs.Stamps.{finds_joined}
-use Rattle.desk.proofs.Views.{unsealed_above, reservation_stays}
+use Rattle.desk.proofs.Views.{fits_seal, reservation_stays}
+use Rattle.desk.specs.Effects.{for_reply}
+use Rattle.desk.proofs.Branches.{stamp_has}
 
 -- what book says of histories that show the same
 pub record ShowLaws : Type 0 where
@@ -177,7 +178,7 @@ stamp_alike s a o b d e same h =
       h.0,
       finds_same s.file a.account a.reading a.octets o b d h.0
           (facts_alike s.file a.account a.reading b d same) h.1,
-      h.2 ∙ stamp_found_same s (name_of a.account) a.octets o b d h.0 greatest,
+      h.2 ∙ found_same for_reply s (name_of a.account) a.octets o b d h.0 greatest,
     )
 
 -- what a stamp adds
@@ -189,18 +190,6 @@ pub data StampShape (s : Setting) (b : History) (e : Effect) : Type 0 where
       → e.adds ≡ Sealed r.serial token ∷ Reserved r ∷ []
       → e.asks ≡ Some (attribute_text s.in_force.identity r.tst) → StampShape s b e
 
-sealed_shape : (s : Setting) (b : History) (r : ReservationValue) (token : List ℕ) (why : Option Cause)
-    → FitsReserved r b → StampShape s b (stamp_effect s (sealed_or_void r token why))
-sealed_shape s b r token None fits = is_sealed r token fits refl refl
-sealed_shape s b r token (Some cause) fits = stays_void r fits refl refl
-
-signed_shape : (s : Setting) (b : History) (p : PendingValue) (r : ReservationValue) (o : Outcome)
-    (signing : Result (List ℕ) SignerFault) → FitsReserved r b
-    → StampShape s b (stamp_effect s (signed_or_void p r signing o))
-signed_shape s b p r o (Ok signature) fits = sealed_shape s b r (token_with p signature) (no_seal o) fits
-signed_shape s b p r o (Err signer.Failed) fits = stays_void r fits refl refl
-signed_shape s b p r o (Err signer.Memory) fits = stays_void r fits refl refl
-
 pub next_fits : (s : Setting) (account : Option AccountValue) (reading : ℤ) (octets name : List ℕ) (b : History)
     (plan : StampPlan) → IsAllowed s.file account reading octets b plan → greatest_serial b < greatest_number
     → FitsReserved (next_reservation s name plan octets b) b
@@ -210,29 +199,17 @@ next_fits s account reading octets name b plan allowed left = record {
   moment = gen_time_bound s account reading octets b plan allowed;
 }
 
-planned_shape : (s : Setting) (account : Option AccountValue) (reading : ℤ) (octets name : List ℕ) (o : Outcome)
-    (b : History) (plan : StampPlan) (why : Option Cause) → no_number o b ≡ why
-    → IsAllowed s.file account reading octets b plan
-    → StampShape s b (stamp_effect s (stamping_of s name plan octets o b why))
-planned_shape s account reading octets name o b plan (Some cause) is allowed = adds_nothing refl refl
-planned_shape s account reading octets name o b plan None is allowed =
-    let r = next_reservation s name plan octets b in
-    signed_shape s b (pending_of s plan r) r o o.signing
-    (next_fits s account reading octets name b plan allowed
-    (not_full (greatest_serial b) (number_left _ _ is)))
-
-found_shape : (s : Setting) (account : Option AccountValue) (reading : ℤ) (octets name : List ℕ) (o : Outcome)
-    (b : History) (f : Finding) → Finds s.file account reading octets o b f
-    → StampShape s b (stamp_found s name octets o b f)
-found_shape s account reading octets name o b (Fails rule) h = adds_nothing refl refl
-found_shape s account reading octets name o b (Unanswered cause) h = adds_nothing refl refl
-found_shape s account reading octets name o b (Allowed plan) h =
-    planned_shape s account reading octets name o b plan (no_number o b) refl h.0
-
 pub stamp_shape : (s : Setting) (a : Question) (o : Outcome) (b : History) (e : Effect)
     → HasEffect s (stamp_for a) o b e → StampShape s b e
 stamp_shape s a o b e h = subst (StampShape s b) (sym h.2)
-    (found_shape s a.account a.reading a.octets (name_of a.account) o b h.0 h.1)
+    (stamp_has (StampShape s b) for_reply s (name_of a.account) a.octets o b (λ rule. adds_nothing refl refl)
+    (λ cause. adds_nothing refl refl) h.0
+    (λ plan is left.
+    let r = next_reservation s (name_of a.account) plan a.octets b in
+    let allowed = (subst (Finds s.file a.account a.reading a.octets o b) is h.1).0 in
+    let fits = next_fits s a.account a.reading a.octets (name_of a.account) b plan allowed
+    (not_full (greatest_serial b) (number_left _ _ left)) in
+    (λ cause. stays_void r fits refl refl, λ token. is_sealed r token fits refl refl)))
 
 -- with the reservation and the token that it adds, or none
 batch_shows : ShowLaws → (r : ReservationValue) (n : ℕ) (t : List ℕ) (rs : List ReservationValue)
@@ -293,14 +270,6 @@ sound_behind laws s rs vs d e (stays_void r fits one asked) = subst (SoundBehind
 sound_behind laws s rs vs d e (is_sealed r token fits two asked) =
     subst (SoundBehind rs vs d) (sym two) (batch_sound laws r r.serial token rs vs d)
 
-new_seal : (r : ReservationValue) (token : List ℕ) (b : History) → FitsReserved r b → IsSound b
-    → FitsSealed r.serial (Reserved r ∷ b)
-new_seal r token b fits sound = record {
-  reservation = r;
-  reserved = rw (eq-eqb r.serial r.serial refl) refl;
-  open_yet = unsealed_above b sound r.serial fits.rises;
-}
-
 judges_more : (r : ReservationValue) (b d : History) → JudgesSame b d → JudgesSame (Reserved r ∷ b) (Reserved r ∷ d)
 judges_more r b d same = record {
   reserved = ap (λ rs. r ∷ rs) same.reserved;
@@ -333,7 +302,7 @@ pub sound_adds : (s : Setting) (d : History) (e : Effect) → IsSound d → Stam
 sound_adds s d e sound (adds_nothing none unasked) = subst (λ adds. IsSound (adds ++ d)) (sym none) sound
 sound_adds s d e sound (stays_void r fits one asked) = subst (λ adds. IsSound (adds ++ d)) (sym one) (fits, sound)
 sound_adds s d e sound (is_sealed r token fits two asked) =
-    subst (λ adds. IsSound (adds ++ d)) (sym two) (new_seal r token d fits sound, (fits, sound))
+    subst (λ adds. IsSound (adds ++ d)) (sym two) (fits_seal r d sound fits.rises, (fits, sound))
 
 judges_adds : (s : Setting) (b d : History) (e : Effect) → JudgesSame b d → StampShape s d e
     → JudgesSame (with_reserved (reservations e.adds) b) (after e d)

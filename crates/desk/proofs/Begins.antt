@@ -8,7 +8,7 @@ use Rattle.tsp.specs.declared.rule.Rule.{Rule}
 use Rattle.book.specs.Fault.{IsOfStorage}
 use Rattle.book.specs.declared.standing.Standing.{Ghosts}
 use Rattle.book.specs.History.{History, greatest_serial}
-use Rattle.book.specs.Sound.{greatest_number}
+use Rattle.book.specs.Sound.{IsSound, greatest_number}
 use Rattle.book.specs.Stands.{Stands, OnlyLooks}
 use Rattle.book.specs.declared.fault.StoreFault.{StoreFault}
 use Rattle.book.specs.declared.fault.StoreFault.TheVariants as store
@@ -31,7 +31,8 @@ pub rejects : {B : Type 0} (g : Ghosts B) (s : Setting) (account : Option Accoun
     (o : Outcome) (old new : B) (rule : Rule)
     → IsFit (Begin account reading octets) o
     → OnlyLooks g old new → g.fault_count new ≡ faults_after o (g.fault_count old)
-    → (g.honest new → (b : History) → Stands g b old → Finds s.file account reading octets o b (Fails rule))
+    → (g.honest new → (b : History) → Stands g b old → IsSound b
+    → Finds s.file account reading octets o b (Fails rule))
     → StepsBy g no_signer s (Begin account reading octets) o old new (Rejected rule)
 rejects g s account reading octets o old new rule fits looks counted finds = record {
   fits = fits;
@@ -41,7 +42,7 @@ rejects g s account reading octets o old new rule fits looks counted finds = rec
   opened = λ honest. tt;
   steps = λ honest b st met. record {
     effect = only (Rejected rule);
-    has = (Fails rule, finds honest b st, refl);
+    has = (Fails rule, finds honest b st st.sound, refl);
     says = refl;
     moves = refl;
     stands = looks.stands b st;
@@ -135,7 +136,7 @@ begin_fits (Some a) reading octets (refusal.Sealing f) h somebody = absurd (elim
 pub leaves_open : {B : Type 0} (g : Ghosts B) (s : Setting) (account : Option AccountValue) (reading : ℤ)
     (octets : List ℕ) (old new : B) (r : StampRefusal) → IsOfLooks r → IsSomebodys account r
     → OnlyLooks g old new → g.fault_count new ≡ faults_after (refused r) (g.fault_count old)
-    → (g.honest new → (b : History) → Stands g b old
+    → (g.honest new → (b : History) → Stands g b old → IsSound b
     → Finds s.file account reading octets (refused r) b (Unanswered (cause_with r)))
     → StepsBy g no_signer s (Begin account reading octets) (refused r) old new (Refused (fault_of (cause_with r)))
 leaves_open g s account reading octets old new r of somebody looks counted finds = record {
@@ -146,7 +147,7 @@ leaves_open g s account reading octets old new r of somebody looks counted finds
   opened = λ honest. tt;
   steps = λ honest b st met. record {
     effect = only (Refused (fault_of (cause_with r)));
-    has = (Unanswered (cause_with r), finds honest b st, refl);
+    has = (Unanswered (cause_with r), finds honest b st st.sound, refl);
     says = refl;
     moves = refl;
     stands = looks.stands b st;
@@ -243,9 +244,9 @@ pub reserves_after : {B : Type 0} (g : Ghosts B) (s : Setting) (account : Option
     (octets : List ℕ) (old mid new : B) (plan : StampPlan) (last : ℕ) (name : List ℕ)
     (result : Result PendingValue StampRefusal)
     → name ≡ name_of account → IsReserving result → OnlyLooks g old mid → g.fault_count mid ≡ g.fault_count old
-    → (g.honest mid → (b : History) → Stands g b old
+    → (g.honest mid → (b : History) → Stands g b old → IsSound b
     → Finds s.file account reading octets (all_fine (Ok [])) b (Allowed plan))
-    → (g.honest mid → (b : History) → Stands g b old → last ≡ greatest_serial b)
+    → (g.honest mid → (b : History) → Stands g b old → IsSound b → last ≡ greatest_serial b)
     → Follows g s name plan octets last mid new result
     → StepsBy g no_signer s (Begin account reading octets) (outcome_of result) old new (pending_as result)
 reserves_after g s account reading octets old mid new plan last name result named of looks uncounted finds is after_it =
@@ -254,7 +255,7 @@ reserves_after g s account reading octets old mid new plan last name result name
     let gone : g.honest new → (b : History) → Stands g b old
     → Reserves g s (name_of account) plan octets b mid new result =
     λ h b st. subst (λ x. Reserves g s x plan octets b mid new result) named
-    (after_it.reserves h b (looks.stands b st) (sym (is (after_it.honest h) b st))) in
+    (after_it.reserves h b (looks.stands b st) (sym (is (after_it.honest h) b st st.sound))) in
     record {
       fits = result_fits account reading octets result of;
       counted = after_it.counted ∙ ap (faults_after o) uncounted;
@@ -266,7 +267,7 @@ reserves_after g s account reading octets old mid new plan last name result name
           (subst (λ (r : Result PendingValue StampRefusal). pending_as r
           ≡ (reserving s (name_of account) plan octets (outcome_of r) b).says) e (gone h b st).says)));
       steps = λ h b st met.
-          let found = finds (after_it.honest h) b st in
+          let found = finds (after_it.honest h) b st st.sound in
           let r = gone h b st in
           record {
             effect = reserving s (name_of account) plan octets o b;

@@ -21,20 +21,21 @@ use Rattle.desk.specs.Closed.{IsUngranted, IsUngrantedBy, GivesNothingOut, Stays
 use Rattle.desk.specs.Command.{Setting, Command, Stamp, Begin, Finish, Abandon, Deposit, Show, Token, ListAll, Grant}
 use Rattle.desk.specs.Command.{Revoke, Calibrate, Hold, Succeed, PendingValue, Answer, Stamped, Rejected, Begun, Kept}
 use Rattle.desk.specs.Command.{Shown, Listed, Done, Numbered, Refused}
+use Rattle.tsp.specs.declared.rule.Rule.{Rule}
 use Rattle.desk.specs.Effects.{Effect, only, unless, fault_of, right_effect, accepted, show_effect, token_effect}
-use Rattle.desk.specs.Effects.{no_sight, no_seal, known_effect, succeed_effect, calibrate_effect, stamp_found}
-use Rattle.desk.specs.Effects.{begin_found, deposit_found, name_of, finish_effect}
+use Rattle.desk.specs.Effects.{no_sight, no_seal, known_effect, succeed_effect, calibrate_effect}
+use Rattle.desk.specs.Effects.{Purpose, purpose_found, for_reply, for_deposit, begin_found, name_of, finish_effect}
 use Rattle.desk.specs.Facts.{clock_of, is_held_at, now_in}
 use Rattle.desk.specs.Findings.{Finding, Fails, Unanswered, Allowed, Finds}
 use Rattle.desk.specs.Outcome.{Outcome, Cause, cause_of}
 use Rattle.desk.specs.Serials.{given_by}
-use Rattle.desk.specs.MachineStep.{HasEffect, KeepsByReference, KeepsOnceSearched, KeepsWithinSize}
+use Rattle.desk.specs.MachineStep.{HasEffect, KeepsWithinSize}
 use Rattle.desk.specs.Succession.{installed_by, is_latest}
 use Rattle.desk.specs.Texts.{octets_for}
 use Rattle.desk.specs.Viewers.{viewer_in}
 use Rattle.desk.specs.declared.fault.Fault.{Fault}
 use Rattle.desk.specs.declared.fault.Fault.TheVariants as fault
-use Rattle.desk.proofs.Branches.{if_has, unless_has, right_has}
+use Rattle.desk.proofs.Branches.{if_has, unless_has, right_has, deposit_has}
 
 -- ---- the clock
 
@@ -67,11 +68,15 @@ refused_only : (f : Fault) → IsQuiet (only (Refused f))
 refused_only f = record { unreserved = refl; unsigned = refl; ungranted = tt }
 
 module _ (s : Setting) (reading : ℤ) (o : Outcome) (b : History) (closed : is_closed b ≡ true) where
-  stamp_quiet : (account : Option AccountValue) (octets : List ℕ) (f : Finding)
-      → Finds s.file account reading octets o b f → IsQuiet (stamp_found s (name_of account) octets o b f)
-  stamp_quiet account octets (Fails rule) finds = record { unreserved = refl; unsigned = refl; ungranted = tt }
-  stamp_quiet account octets (Unanswered cause) finds = record { unreserved = refl; unsigned = refl; ungranted = tt }
-  stamp_quiet account octets (Allowed plan) finds =
+  stamp_quiet : (u : Purpose) → ((rule : Rule) → IsUngranted (u.rejects rule))
+      → ((cause : Cause) → IsUngranted (u.refuses cause)) → (account : Option AccountValue) (octets : List ℕ)
+      (f : Finding) → Finds s.file account reading octets o b f
+      → IsQuiet (purpose_found u s (name_of account) octets o b f)
+  stamp_quiet u rejects refuses account octets (Fails rule) finds =
+      record { unreserved = refl; unsigned = refl; ungranted = rejects rule }
+  stamp_quiet u rejects refuses account octets (Unanswered cause) finds =
+      record { unreserved = refl; unsigned = refl; ungranted = refuses cause }
+  stamp_quiet u rejects refuses account octets (Allowed plan) finds =
       absurd (never_good s.file.counter reading b closed finds.0.good.0)
 
   begin_quiet : (account : Option AccountValue) (octets : List ℕ) (f : Finding)
@@ -81,35 +86,18 @@ module _ (s : Setting) (reading : ℤ) (o : Outcome) (b : History) (closed : is_
   begin_quiet account octets (Allowed plan) finds =
       absurd (never_good s.file.counter reading b closed finds.0.good.0)
 
-  deposit_quiet : (account : Option AccountValue) (owner reference bytes octets : List ℕ) (f : Finding)
-      → Finds s.file account reading octets o b f → IsQuiet (deposit_found s owner reference bytes octets o b f)
-  deposit_quiet account owner reference bytes octets (Fails rule) finds =
-      record { unreserved = refl; unsigned = refl; ungranted = tt }
-  deposit_quiet account owner reference bytes octets (Unanswered cause) finds =
-      record { unreserved = refl; unsigned = refl; ungranted = tt }
-  deposit_quiet account owner reference bytes octets (Allowed plan) finds =
-      absurd (never_good s.file.counter reading b closed finds.0.good.0)
-
   known_quiet : (bytes : List ℕ) (d : DepositRow) → IsQuiet (known_effect bytes d)
   known_quiet bytes d = go (bytes_eq d.bytes bytes) where
     go : (same : Bool) → IsQuiet (only (cond same (Kept d.serial false) (Refused fault.Conflict)))
     go true = record { unreserved = refl; unsigned = refl; ungranted = tt }
     go false = record { unreserved = refl; unsigned = refl; ungranted = tt }
 
-  module _ (a : AccountValue) (reference bytes : List ℕ) (e : Effect) where
-    by_reference_quiet : (found : Option DepositRow) → KeepsByReference s a reading reference bytes o b found e
-        → IsQuiet e
-    by_reference_quiet (Some d) is = subst IsQuiet (sym is) (known_quiet bytes d)
-    by_reference_quiet None (spelled, (f, finds, is)) = subst IsQuiet (sym is)
-        (deposit_quiet (Some a) a.name reference bytes (octets_for s.file a bytes) f finds)
-
-    searched_quiet : (cause : Option Cause) → KeepsOnceSearched s a reading reference bytes o b cause e → IsQuiet e
-    searched_quiet (Some cause) is = subst IsQuiet (sym is) (refused_only _)
-    searched_quiet None is = by_reference_quiet _ is
-
-    sized_quiet : (within : Bool) → KeepsWithinSize s a reading reference bytes o b within e → IsQuiet e
-    sized_quiet true is = searched_quiet (cause_of o.searching) is
-    sized_quiet false is = subst IsQuiet (sym is) (refused_only _)
+  deposit_quiet : (a : AccountValue) (reference bytes : List ℕ) (e : Effect) (within : Bool)
+      → KeepsWithinSize s a reading reference bytes o b within e → IsQuiet e
+  deposit_quiet a reference bytes e within is =
+      deposit_has IsQuiet refused_only s a reading reference bytes o b (λ d known. known_quiet bytes d)
+      (λ unused spelled f finds. stamp_quiet (for_deposit a.name reference bytes) (λ rule. tt) (λ cause. tt) (Some a)
+      (octets_for s.file a bytes) f finds) within e is
 
 shown_quiet : (refused other : Option Cause) (d : Option DepositRow) → IsQuiet (unless refused (show_effect other d))
 shown_quiet (Some cause) other d = refused_only (fault_of cause)
@@ -157,7 +145,8 @@ succeeded_quiet o i false = unless_has IsQuiet refused_only (cause_of o.adding) 
 pub nothing_given : (s : Setting) (c : Command) (o : Outcome) (b : History) (e : Effect) → is_closed b ≡ true
     → HasEffect s c o b e → GivesNothingOut c e
 nothing_given s (Stamp account reading octets) o b e closed (f, finds, is) =
-    given _ e (subst IsQuiet (sym is) (stamp_quiet s reading o b closed account octets f finds)) (λ quiet. quiet)
+    given _ e (subst IsQuiet (sym is) (stamp_quiet s reading o b closed for_reply (λ rule. tt) (λ cause. tt)
+    account octets f finds)) (λ quiet. quiet)
 nothing_given s (Begin account reading octets) o b e closed (f, finds, is) =
     given _ e (subst IsQuiet (sym is) (begin_quiet s reading o b closed account octets f finds)) (λ quiet. quiet)
 nothing_given s (Finish p signature) o b e closed is =
@@ -165,7 +154,7 @@ nothing_given s (Finish p signature) o b e closed is =
 nothing_given s (Abandon p) o b e closed is =
     given _ e (subst IsQuiet (sym is) (record { unreserved = refl; unsigned = refl; ungranted = tt })) (λ quiet. quiet)
 nothing_given s (Deposit a reading reference bytes) o b e closed is =
-    given _ e (sized_quiet s reading o b closed a reference bytes e (nat_le (length bytes) 1_048_576) is)
+    given _ e (deposit_quiet s reading o b closed a reference bytes e (nat_le (length bytes) 1_048_576) is)
     (λ quiet. quiet)
 nothing_given s (Show a n) o b e closed is =
     given _ e (subst IsQuiet (sym is) (shown_quiet (cause_of o.searching) (no_sight o)

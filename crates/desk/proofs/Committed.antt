@@ -65,7 +65,7 @@ commit_honest g entries old new call (untried none fine same) honest = subst g.h
 commit_honest g entries old new call (added some fine a) honest = a.honest honest
 commit_honest g entries old new call (refused some fault is storage a) honest = a.honest honest
 
-counted_as : (fault : StoreFault) → IsOfStorage fault → (n : ℕ) → count_faults fault n ≡ counted (call_of fault) n
+pub counted_as : (fault : StoreFault) → IsOfStorage fault → (n : ℕ) → count_faults fault n ≡ counted (call_of fault) n
 counted_as store.Memory storage n = refl
 counted_as store.Database storage n = refl
 counted_as store.NotOurs storage n = absurd (elim storage [ inl e ↦ cc | inr e ↦ cc ])

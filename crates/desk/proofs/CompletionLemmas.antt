@@ -1,5 +1,5 @@
 -- Stamps of a batch from their reservations on: what is written of each, and what the commit of all tokens does.
-use Rattle.std.proofs.Common.{◌≡◌, ℕ, ◌<◌, ◌+◌, ◌==◌, List, [], ◌∷◌, ◌++◌, map, length, Option, Some, None, Result, Ok}
+use Rattle.std.proofs.Common.{◌≡◌, ℕ, ◌<◌, ◌+◌, ◌==◌, List, [], ◌∷◌, ◌++◌, map, length, Some, None, Result, Ok}
 use Rattle.std.proofs.Common.{Err, refl, sym, ◌∙◌, ap, arith, append_assoc, append-nil, false, if◌then◌else◌, take}
 use Rattle.std.proofs.Common.{slice_index_or, Vec}
 use Rattle.std.proofs.lemmas.List.{map-append, take_more}
@@ -18,20 +18,20 @@ use Rattle.desk.specs.Batches.{SealValue, seal_entry, with_sealed, seals}
 use Rattle.desk.specs.Command.{Setting, PendingValue, Answer, Stamped, Rejected}
 use Rattle.desk.specs.Completions.{texts_of, Completion, finished, completed, seals_of, AreWaiting, IsWritten, seal_view}
 use Rattle.desk.specs.Completions.{AreWritten, IsWrittenMore}
-use Rattle.desk.specs.Effects.{no_seal}
+use Rattle.desk.specs.Effects.{in_seal, for_reply, no_seal}
 use Rattle.desk.specs.Fit.{IsUncounted}
 use Rattle.desk.specs.Outcome.{Call, Fine, OutOfMemory, Failed, Outcome, Cause, OfMemory, OfStore, cause_of, first_cause}
 use Rattle.desk.specs.Texts.{token_with}
 use Rattle.desk.specs.Together.{Verdict, Settled, Waits, JudgedStamp, waiting_before, waits_of, HasItsText}
 use Rattle.desk.specs.Together.{IsJudgedRightly}
 use Rattle.desk.specs.WaitingStamps.{pendings_in, HasText}
-use Rattle.desk.specs.Wholes.{sealed_by, stamped}
+use Rattle.desk.specs.Wholes.{token_or, ending, added, ended, answer_by, stamped}
 use Rattle.desk.specs.declared.completion.Seal.{Seal}
 use Rattle.desk.specs.declared.completion.Written.{Written}
 use Rattle.desk.specs.declared.reply.Reply.{Reply}
 use Rattle.desk.specs.declared.waiting_stamp.Waiting.{Waiting}
 use Rattle.desk.proofs.BatchJudgement.{all_next}
-use Rattle.desk.proofs.Seals.{waiting_fits}
+use Rattle.desk.proofs.Endings.{waiting_fits}
 
 pub with_both : (vs us : List SealValue) (b : History) → with_sealed (vs ++ us) b ≡ with_sealed us (with_sealed vs b)
 with_both [] us b = refl
@@ -58,42 +58,29 @@ waits_still n token (p ∷ ps) b above waits = (
   waits_still n token ps b above.1 waits.2,
 )
 
--- what waits behind those that were sealed does so still
-waits_after_seal : (p : PendingValue) (signature : List ℕ) (why : Option Cause) (ps : List PendingValue) (b : History)
+-- what waits behind one that ended does so still
+waits_after_one : (p : PendingValue) (end : Result (List ℕ) Cause) (ps : List PendingValue) (b : History)
     → AllByRecursion (λ q. p.serial < q.serial) ps → AreWaiting ps b
-    → AreWaiting ps (with_sealed (seals (sealed_by p signature [] why).adds) b)
-waits_after_seal p signature None ps b above waits = waits_still p.serial (token_with p signature) ps b above waits
-waits_after_seal p signature (Some cause) ps b above waits = waits
-
-waits_after_one : (p : PendingValue) (signing : Result (List ℕ) SignerFault) (o : Outcome) (ps : List PendingValue)
-    (b : History) → AllByRecursion (λ q. p.serial < q.serial) ps → AreWaiting ps b
-    → AreWaiting ps (with_sealed (seals (stamped p signing [] o).adds) b)
-waits_after_one p (Err fault) o ps b above waits = waits
-waits_after_one p (Ok signature) o ps b above waits = waits_after_seal p signature (no_seal o) ps b above waits
+    → AreWaiting ps (with_sealed (seals (added in_seal p.serial end ++ [])) b)
+waits_after_one p (Ok token) ps b above waits = waits_still p.serial token ps b above waits
+waits_after_one p (Err cause) ps b above waits = waits
 
 -- all tokens fit in their turn
-fit_by : (p : PendingValue) (signature : List ℕ) (why : Option Cause) (vs : List SealValue) (b : History)
-    → Fits (Sealed p.serial (token_with p signature)) b
-    → FitInTurn (map seal_entry vs) (with_sealed (seals (sealed_by p signature [] why).adds) b)
-    → FitInTurn (map seal_entry (seals (sealed_by p signature [] why).adds ++ vs)) b
-fit_by p signature None vs b fits rest = (fits, rest)
-fit_by p signature (Some cause) vs b fits rest = rest
-
-fit_one : (p : PendingValue) (signing : Result (List ℕ) SignerFault) (o : Outcome) (vs : List SealValue) (b : History)
-    → ((signature : List ℕ) → Fits (Sealed p.serial (token_with p signature)) b)
-    → FitInTurn (map seal_entry vs) (with_sealed (seals (stamped p signing [] o).adds) b)
-    → FitInTurn (map seal_entry (seals (stamped p signing [] o).adds ++ vs)) b
-fit_one p (Ok signature) o vs b fits rest = fit_by p signature (no_seal o) vs b (fits signature) rest
-fit_one p (Err fault) o vs b fits rest = rest
+fit_one : (p : PendingValue) (end : Result (List ℕ) Cause) (vs : List SealValue) (b : History)
+    → ((token : List ℕ) → Fits (Sealed p.serial token) b)
+    → FitInTurn (map seal_entry vs) (with_sealed (seals (added in_seal p.serial end ++ [])) b)
+    → FitInTurn (map seal_entry (seals (added in_seal p.serial end ++ []) ++ vs)) b
+fit_one p (Ok token) vs b fits rest = (fits token, rest)
+fit_one p (Err cause) vs b fits rest = rest
 
 pub seals_fit : (zs : List Completion) (b : History) → AreWaiting (map (λ z. z.pending) zs) b
     → FitInTurn (map seal_entry (seals_of Fine zs)) b
 seals_fit [] b waits = tt
 seals_fit (z ∷ zs) b waits =
-    fit_one z.pending z.signing (finished Fine z) (seals_of Fine zs) b
-    (λ signature. waiting_fits z.pending b waits.0)
+    let end = ending z.pending z.signing (finished Fine z) in
+    fit_one z.pending end (seals_of Fine zs) b (λ token. waiting_fits z.pending b waits.0)
     (seals_fit zs (with_sealed (seals (completed Fine z).adds) b)
-    (waits_after_one z.pending z.signing (finished Fine z) (map (λ y. y.pending) zs) b waits.1 waits.2))
+    (waits_after_one z.pending end (map (λ y. y.pending) zs) b waits.1 waits.2))
 
 -- where the commit was refused nothing is sealed, and all are rejected by rule 12
 refused_seal : (wrapping sealing : Call) → (sealing ≡ Fine → ⊥)
@@ -106,13 +93,15 @@ refused_seal Fine Fine h = absurd (h refl)
 
 pub void_one : (p : PendingValue) (signing : Result (List ℕ) SignerFault) (begun : List Entry) (sealing : Call)
     (o : Outcome) → o.sealing ≡ sealing → (sealing ≡ Fine → ⊥)
-    → ((stamped p signing begun o).adds ≡ begun) × ((stamped p signing begun o).says ≡ Rejected System)
+    → ((stamped for_reply p signing begun o).adds ≡ begun)
+    × ((stamped for_reply p signing begun o).says ≡ Rejected System)
 void_one p (Err fault) begun sealing o is h = (refl, refl)
 void_one p (Ok signature) begun sealing o is h =
     let why = refused_seal o.wrapping sealing h in
-    let none : no_seal o ≡ Some why.0 = ap (λ x. first_cause (cause_of o.wrapping ∷ cause_of x ∷ [])) is ∙ why.1 in (
-      ap (λ x. (sealed_by p signature begun x).adds) none,
-      ap (λ x. (sealed_by p signature begun x).says) none,
+    let none : no_seal o ≡ Some why.0 = ap (λ x. first_cause (cause_of o.wrapping ∷ cause_of x ∷ [])) is ∙ why.1 in
+    let end = ap (token_or (token_with p signature)) none in (
+      ap (λ e. added in_seal p.serial e ++ begun) end,
+      ap (λ e. answer_by for_reply.refuses (ended in_seal p.serial e)) end,
     )
 
 pub void_seals : (sealing : Call) → (sealing ≡ Fine → ⊥) → (zs : List Completion) → seals_of sealing zs ≡ []

@@ -1,12 +1,11 @@
 -- What is given out to be signed is over the reservation that the same command adds first.
-use Rattle.std.proofs.Common.{arith, ◌≡◌, ℕ, ◌+◌, ◌<◌, nat_le, ℤ, cond, Bool, true, false, List, [], ◌∷◌, ◌++◌, length}
+use Rattle.std.proofs.Common.{arith, ◌≡◌, ℕ, ◌+◌, ◌<◌, nat_le, cond, Bool, true, false, List, [], ◌∷◌, ◌++◌, length}
 use Rattle.std.proofs.Common.{Option, Some, None, refl, sym, ◌∙◌, ap, subst}
 use Rattle.std.specs.Str.{bytes_eq}
-use Rattle.policy.specs.Record.{AccountValue}
 use Rattle.cms.specs.SignedData.{attribute_text}
 use Rattle.book.specs.History.{Entry, Reserved, Sealed, Deposited, Calibrated, Held, Granted, Revoked, History}
 use Rattle.book.specs.History.{ReservationValue, greatest_serial, latest_calibration, token_of}
-use Rattle.book.specs.History.{Installed, InstalledValue, calibrations, holds, deposit_under}
+use Rattle.book.specs.History.{Installed, InstalledValue, calibrations, holds}
 use Rattle.book.specs.Identities.{latest_identity, identity_at_reservation}
 use Rattle.std.proofs.lemmas.Bool.{eq-eqb}
 use Rattle.book.specs.Rights.{seen_by, listed}
@@ -21,18 +20,19 @@ use Rattle.desk.specs.Command.{Done, Numbered, Refused}
 use Rattle.desk.specs.Texts.{octets_for, pending_of}
 use Rattle.desk.specs.Effects.{Effect, only, Stamping, Unreserved, Void, Sealing, no_number, no_seal, no_sight}
 use Rattle.desk.specs.Effects.{next_reservation, stamping_of, stamp_effect, stamp_found, begin_effect, begin_found}
-use Rattle.desk.specs.Effects.{finish_effect, deposit_effect, deposit_found, fault_of, show_effect}
+use Rattle.desk.specs.Effects.{finish_effect, deposit_effect, deposit_found, show_effect}
 use Rattle.desk.specs.Effects.{token_effect, reply_or_nothing, right_effect, calibrate_effect, name_of}
 use Rattle.desk.specs.Effects.{accepted, numbered, succeed_effect}
 use Rattle.desk.specs.Succession.{installed_by, is_latest}
 use Rattle.desk.specs.declared.fault.Fault.{Fault}
 use Rattle.desk.specs.declared.fault.Fault.TheVariants as fault
-use Rattle.desk.specs.MachineStep.{KeepsByReference, KeepsOnceSearched, KeepsWithinSize, HasEffect}
+use Rattle.desk.specs.MachineStep.{HasEffect}
 use Rattle.desk.specs.Laws.{IsReservedText, IsPendingOf}
 use Rattle.desk.specs.Serials.{serials_of}
 use Rattle.desk.proofs.Headline.{SealedBy, stamping_by}
 use Rattle.desk.specs.Viewers.{viewer_in}
 use Rattle.desk.proofs.Branches.{if_has, unless_has, right_has}
+use Rattle.desk.proofs.Branches.{deposit_has}
 
 -- what an effect gives out
 record IsGivenOut (s : Setting) (b : History) (e : Effect) : Type 0 where
@@ -175,30 +175,6 @@ known_by : (s : Setting) (b : History) (number : ℕ) (same : Bool)
 known_by s b number true = plainly s b (only (Kept number false)) refl (λ p h. cc)
 known_by s b number false = refusal_given s b fault.Conflict
 
-under_given : (s : Setting) (b : History) (a : AccountValue) (reading : ℤ) (reference bytes : List ℕ) (o : Outcome)
-    (e : Effect) (under : Option DepositRow)
-    → KeepsByReference s a reading reference bytes o b under e → IsGivenOut s b e
-under_given s b a reading reference bytes o e (Some d) h = subst (IsGivenOut s b) (sym h)
-    (known_by s b d.serial (bytes_eq d.bytes bytes))
-under_given s b a reading reference bytes o e None h = subst (IsGivenOut s b) (sym h.1.2)
-    (deposit_found_given s b a.name reference bytes (octets_for s.file a bytes) o h.1.0)
-
-unless_given : (s : Setting) (b : History) (a : AccountValue) (reading : ℤ) (reference bytes : List ℕ) (o : Outcome)
-    (e : Effect) (refused : Option Cause)
-    → KeepsOnceSearched s a reading reference bytes o b refused e → IsGivenOut s b e
-unless_given s b a reading reference bytes o e (Some cause) h = subst (IsGivenOut s b) (sym h)
-    (refusal_given s b (fault_of cause))
-unless_given s b a reading reference bytes o e None h =
-    under_given s b a reading reference bytes o e (deposit_under a.name reference b) h
-
-keeps_given : (s : Setting) (b : History) (a : AccountValue) (reading : ℤ) (reference bytes : List ℕ) (o : Outcome)
-    (e : Effect) (short : Bool)
-    → KeepsWithinSize s a reading reference bytes o b short e → IsGivenOut s b e
-keeps_given s b a reading reference bytes o e true h =
-    unless_given s b a reading reference bytes o e (cause_of o.searching) h
-keeps_given s b a reading reference bytes o e false h = subst (IsGivenOut s b) (sym h)
-    (refusal_given s b fault.TooLarge)
-
 show_given : (s : Setting) (b : History) (refused : Option Cause) (seen : Option DepositRow)
     → IsGivenOut s b (show_effect refused seen)
 show_given s b refused None = refusal_given s b fault.NotHere
@@ -242,8 +218,11 @@ given_out s (Finish p signature) o b e h =
     subst (IsGivenOut s b) (sym h) (unless_has (IsGivenOut s b) (refusal_given s b) (no_seal o) d
     (plainly s b d refl (λ q k. cc)))
 given_out s (Abandon p) o b e h = subst (IsGivenOut s b) (sym h) (answer_given s b [] Done (λ q k. cc))
-given_out s (Deposit a reading reference bytes) o b e h = keeps_given s b a reading reference bytes o e
-    (nat_le (length bytes) 1_048_576) h
+given_out s (Deposit a reading reference bytes) o b e h =
+    deposit_has (IsGivenOut s b) (refusal_given s b) s a reading reference bytes o b
+    (λ d is. known_by s b d.serial (bytes_eq d.bytes bytes))
+    (λ unused spelled f found. deposit_found_given s b a.name reference bytes (octets_for s.file a bytes) o f)
+    (nat_le (length bytes) 1_048_576) e h
 given_out s (Show a n) o b e h =
     let d = show_effect (no_sight o) (seen_by (viewer_in s.file a.name) n b) in
     subst (IsGivenOut s b) (sym h) (unless_has (IsGivenOut s b) (refusal_given s b) (cause_of o.searching) d

@@ -11,6 +11,7 @@ use Rattle.tsp.specs.Rules.{IsFirstFailing}
 use Rattle.tsp.specs.declared.rule.Rule.{Rule}
 use Rattle.tsp.specs.declared.rule.Rule.TheVariants.{Spelling, Version, Account, Algorithm, HashLength, Policy}
 use Rattle.tsp.specs.declared.rule.Rule.TheVariants.{PolicyAlgorithm, Extensions, Certificate, Clock, Quota, System}
+use Rattle.cms.specs.SignedData.{attribute_text}
 use Rattle.cms.specs.declared.signer.SignerFault.{SignerFault}
 use Rattle.cms.specs.declared.signer.SignerFault.TheVariants as signer
 use Rattle.book.specs.History.{History, ReservationValue, greatest_serial}
@@ -20,7 +21,7 @@ use Rattle.desk.specs.Outcome.{Outcome, Cause, OfMemory, OfStore, OfSigner, caus
 use Rattle.desk.specs.Findings.{IsUnjudged, StampPlan, IsAllowed, HoldsAt, HoldsUnasked, Finding, Fails, Unanswered}
 use Rattle.desk.specs.Findings.{Allowed, Finds}
 use Rattle.desk.specs.Command.{Setting, PendingValue, Stamp, Answer, Stamped, Rejected}
-use Rattle.desk.specs.Texts.{pending_of, token_with}
+use Rattle.desk.specs.Texts.{pending_of, token_with, tst_of}
 use Rattle.desk.specs.Effects.{Effect, Stamping, Unreserved, Void, Sealing, no_number, no_seal, next_reservation}
 use Rattle.desk.specs.Effects.{sealed_or_void, signed_or_void, stamping_of, stamp_effect, stamp_found, name_of}
 use Rattle.desk.specs.MachineStep.{HasEffect}
@@ -56,29 +57,40 @@ pub stamping_by : (s : Setting) (account : List ℕ) (plan : StampPlan) (octets 
 stamping_by s account plan octets o b (Some cause) = tt
 stamping_by s account plan octets o b None = signed_by s account plan octets o b o.signing refl
 
+-- a grant, and the text that was signed for it
+abbrev pub IsGrantAsking : Setting → Option AccountValue → ℤ → List ℕ → Outcome → History → ℕ → List ℕ → Effect → Type 0
+IsGrantAsking s account reading octets o b serial reply e =
+    (grant : IsGrant s account reading octets o b serial reply)
+    × (e.asks ≡ Some (attribute_text s.in_force.identity (tst_of s grant.plan serial)))
+
 granted_from : (s : Setting) (account : Option AccountValue) (reading : ℤ) (octets : List ℕ) (o : Outcome)
     (b : History) (plan : StampPlan) (serial : ℕ) (reply : List ℕ)
     → IsAllowed s.file account reading octets b plan → (st : Stamping)
     → SealedBy s (name_of account) plan octets o b st → (stamp_effect s st).says ≡ Stamped serial reply
-    → IsGrant s account reading octets o b serial reply
+    → IsGrantAsking s account reading octets o b serial reply (stamp_effect s st)
 granted_from s account reading octets o b plan serial reply allowed (Unreserved cause) by e = cc
 granted_from s account reading octets o b plan serial reply allowed (Void r cause) by e = cc
 granted_from s account reading octets o b plan serial reply allowed (Sealing r token) by e =
     let number : r.serial ≡ serial = cc in
     let octets_are : granted_octets token ≡ reply = cc in
-    record {
-      plan = plan;
-      allowed = allowed;
-      number = sym number ∙ ap (λ x. x.serial) by.1;
-      signature = by.0;
-      signed = by.3;
-      text = sym octets_are ∙ ap granted_octets by.2;
-    }
+    let next : serial ≡ greatest_serial b + 1 = sym number ∙ ap (λ x. x.serial) by.1 in (
+      record {
+        plan = plan;
+        allowed = allowed;
+        number = next;
+        signature = by.0;
+        signed = by.3;
+        text = sym octets_are ∙ ap granted_octets by.2;
+      },
+      ap (λ x. Some (attribute_text s.in_force.identity x.tst)) by.1
+          ∙ ap (λ n. Some (attribute_text s.in_force.identity (tst_of s plan n))) (sym next),
+    )
 
 granted_found : (s : Setting) (account : Option AccountValue) (reading : ℤ) (octets : List ℕ) (o : Outcome)
     (b : History) (serial : ℕ) (reply : List ℕ) (f : Finding)
     → Finds s.file account reading octets o b f → (stamp_found s (name_of account) octets o b f).says
-    ≡ Stamped serial reply → IsGrant s account reading octets o b serial reply
+    ≡ Stamped serial reply
+    → IsGrantAsking s account reading octets o b serial reply (stamp_found s (name_of account) octets o b f)
 granted_found s account reading octets o b serial reply (Fails rule) found e = cc
 granted_found s account reading octets o b serial reply (Unanswered cause) found e = cc
 granted_found s account reading octets o b serial reply (Allowed plan) found e =
@@ -87,12 +99,20 @@ granted_found s account reading octets o b serial reply (Allowed plan) found e =
     (stamping_by s (name_of account) plan octets o b (no_number o b)) e
 
 -- a granted reply is a grant
+pub granted_asking : (s : Setting) (account : Option AccountValue) (reading : ℤ) (octets : List ℕ) (o : Outcome)
+    (b : History) (e : Effect) (serial : ℕ) (reply : List ℕ)
+    → HasEffect s (Stamp account reading octets) o b e → e.says ≡ Stamped serial reply
+    → IsGrantAsking s account reading octets o b serial reply e
+granted_asking s account reading octets o b e serial reply h says =
+    subst (IsGrantAsking s account reading octets o b serial reply) (sym h.2)
+    (granted_found s account reading octets o b serial reply h.0 h.1 (sym (ap (λ x. x.says) h.2) ∙ says))
+
 pub granted_is : (s : Setting) (account : Option AccountValue) (reading : ℤ) (octets : List ℕ) (o : Outcome)
     (b : History) (e : Effect) (serial : ℕ) (reply : List ℕ)
     → HasEffect s (Stamp account reading octets) o b e → e.says ≡ Stamped serial reply
     → IsGrant s account reading octets o b serial reply
 granted_is s account reading octets o b e serial reply h says =
-    granted_found s account reading octets o b serial reply h.0 h.1 (sym (ap (λ x. x.says) h.2) ∙ says)
+    (granted_asking s account reading octets o b e serial reply h says).0
 
 one_later : {X : Type 0} (x : X) (xs : List X) (y : X) → Contains xs y → Contains (x ∷ xs) y
 one_later x xs y (k, below, is) = (suc k, omega arith, is)

@@ -1,14 +1,13 @@
 -- What is in force stays the identity that was installed last, and an opening brings it so.
-use Rattle.std.proofs.Common.{◌≡◌, ℕ, ◌+◌, ◌&&◌, nat_le, ℤ, Bool, true, false, List, [], ◌++◌, length}
+use Rattle.std.proofs.Common.{◌≡◌, ℕ, ◌+◌, ◌&&◌, nat_le, Bool, true, false, List, [], ◌∷◌, ◌++◌, length}
 use Rattle.std.proofs.Common.{Option, Some, None, refl, sym, ◌∙◌, ap, subst}
 use Rattle.std.specs.Str.{bytes_eq}
 use Rattle.std.proofs.lemmas.Slice.Eq.{bytes_eq-Decides}
-use Rattle.policy.specs.Record.{AccountValue}
-use Rattle.book.specs.History.{Calibrated, Held, Granted, Revoked, Installed, InstalledValue, History}
-use Rattle.book.specs.History.{calibrations, holds, latest_calibration, token_of, deposit_under}
+use Rattle.book.specs.History.{Reserved, Calibrated, Held, Granted, Revoked, Installed, InstalledValue, History}
+use Rattle.book.specs.History.{ReservationValue}
+use Rattle.book.specs.History.{calibrations, holds, latest_calibration, token_of}
 use Rattle.book.specs.Identities.{latest_identity}
 use Rattle.book.specs.Rights.{seen_by}
-use Rattle.book.specs.Rows.{DepositRow}
 use Rattle.book.specs.Sound.{is_backwards}
 use Rattle.book.specs.Values.{installed_of}
 use Rattle.desk.specs.Outcome.{Outcome, Cause, cause_of}
@@ -16,18 +15,20 @@ use Rattle.desk.specs.Findings.{StampPlan, Finding, Fails, Unanswered, Allowed}
 use Rattle.desk.specs.Command.{InForce, Setting, Command, Stamp, Begin, Finish, Abandon, Deposit, Show, Token, ListAll}
 use Rattle.desk.specs.Command.{Grant, Revoke, Calibrate, Hold, Succeed, Done, Refused, brought, in_force_after}
 use Rattle.desk.specs.Texts.{octets_for}
-use Rattle.desk.specs.Effects.{Effect, only, unless, Stamping, Unreserved, Void, Sealing, no_number, no_seal}
-use Rattle.desk.specs.Effects.{stamping_of, stamp_effect, stamp_found, begin_effect, begin_found, finish_effect}
-use Rattle.desk.specs.Effects.{deposit_effect, deposit_found, right_effect, accepted, numbered, succeed_effect}
+use Rattle.desk.specs.Effects.{Effect, only, unless, no_number, no_seal}
+use Rattle.desk.specs.Effects.{begin_effect, begin_found, finish_effect}
+use Rattle.desk.specs.Effects.{right_effect, accepted, numbered, succeed_effect}
 use Rattle.desk.specs.Effects.{calibrate_effect, name_of}
 use Rattle.desk.specs.declared.fault.Fault.{Fault}
 use Rattle.desk.specs.declared.fault.Fault.TheVariants as fault
-use Rattle.desk.specs.MachineStep.{KeepsByReference, KeepsOnceSearched, KeepsWithinSize, HasEffect}
+use Rattle.desk.specs.MachineStep.{HasEffect}
 use Rattle.desk.specs.Succession.{installed_by, is_latest, IsInForce}
 use Rattle.desk.specs.Viewers.{viewer_in}
 use Rattle.desk.proofs.Branches.{if_has, unless_has, right_has}
 use Rattle.desk.proofs.StepFacts.{shows_none, tokens_none, answers_none}
 use Rattle.desk.proofs.Views.{both_true, same_octets}
+use Rattle.desk.specs.Effects.{Purpose, purpose_found, next_reservation, for_reply, for_deposit}
+use Rattle.desk.proofs.Branches.{stamp_has, deposit_has}
 
 -- what an identity is told from others by
 is_same : (i latest : InstalledValue) → latest.certificate ≡ i.certificate → latest.chain ≡ i.chain → latest ≡ i
@@ -48,17 +49,13 @@ InstallsNone e = (b : History) → latest_identity (e.adds ++ b) ≡ latest_iden
 refused_none : (f : Fault) → InstallsNone (only (Refused f))
 refused_none f b = refl
 
-stamp_none : (s : Setting) (st : Stamping) → InstallsNone (stamp_effect s st)
-stamp_none s (Unreserved cause) b = refl
-stamp_none s (Void r cause) b = refl
-stamp_none s (Sealing r token) b = refl
-
-stamp_found_none : (s : Setting) (account octets : List ℕ) (o : Outcome) (b : History) (f : Finding)
-    → InstallsNone (stamp_found s account octets o b f)
-stamp_found_none s account octets o b (Fails rule) = λ c. refl
-stamp_found_none s account octets o b (Unanswered cause) = λ c. refl
-stamp_found_none s account octets o b (Allowed plan) =
-    stamp_none s (stamping_of s account plan octets o b (no_number o b))
+stamp_none : (u : Purpose) → ((r : ReservationValue) (token : List ℕ) (b : History)
+    → latest_identity (u.keeping.adds r.serial token ∷ Reserved r ∷ b) ≡ latest_identity b)
+    → (s : Setting) (name octets : List ℕ) (o : Outcome) (b : History) (f : Finding)
+    → InstallsNone (purpose_found u s name octets o b f)
+stamp_none u none s name octets o b f =
+    stamp_has InstallsNone u s name octets o b (λ rule c. refl) (λ cause c. refl) f
+    (λ plan is left. (λ cause c. refl, λ token. none (next_reservation s name plan octets b) token))
 
 begin_none : (s : Setting) (account octets : List ℕ) (plan : StampPlan) (b : History) (refused : Option Cause)
     → InstallsNone (begin_effect s account plan octets b refused)
@@ -70,39 +67,6 @@ begin_found_none : (s : Setting) (account octets : List ℕ) (o : Outcome) (b : 
 begin_found_none s account octets o b (Fails rule) = λ c. refl
 begin_found_none s account octets o b (Unanswered cause) = λ c. refl
 begin_found_none s account octets o b (Allowed plan) = begin_none s account octets plan b (no_number o b)
-
-deposit_none : (s : Setting) (owner reference bytes : List ℕ) (st : Stamping)
-    → InstallsNone (deposit_effect s owner reference bytes st)
-deposit_none s owner reference bytes (Unreserved cause) b = refl
-deposit_none s owner reference bytes (Void r cause) b = refl
-deposit_none s owner reference bytes (Sealing r token) b = refl
-
-deposit_found_none : (s : Setting) (owner reference bytes octets : List ℕ) (o : Outcome) (b : History) (f : Finding)
-    → InstallsNone (deposit_found s owner reference bytes octets o b f)
-deposit_found_none s owner reference bytes octets o b (Fails rule) = λ c. refl
-deposit_found_none s owner reference bytes octets o b (Unanswered cause) = λ c. refl
-deposit_found_none s owner reference bytes octets o b (Allowed plan) =
-    deposit_none s owner reference bytes (stamping_of s owner plan octets o b (no_number o b))
-
-under_none : (s : Setting) (a : AccountValue) (reading : ℤ) (reference bytes : List ℕ) (o : Outcome) (b : History)
-    (under : Option DepositRow) (e : Effect) → KeepsByReference s a reading reference bytes o b under e
-    → InstallsNone e
-under_none s a reading reference bytes o b (Some d) e is = subst InstallsNone (sym is) (λ c. refl)
-under_none s a reading reference bytes o b None e is =
-    subst InstallsNone (sym is.1.2) (deposit_found_none s a.name reference bytes (octets_for s.file a bytes) o b is.1.0)
-
-unless_none : (s : Setting) (a : AccountValue) (reading : ℤ) (reference bytes : List ℕ) (o : Outcome) (b : History)
-    (refused : Option Cause) (e : Effect) → KeepsOnceSearched s a reading reference bytes o b refused e
-    → InstallsNone e
-unless_none s a reading reference bytes o b (Some cause) e is = subst InstallsNone (sym is) (λ c. refl)
-unless_none s a reading reference bytes o b None e is =
-    under_none s a reading reference bytes o b (deposit_under a.name reference b) e is
-
-keeps_none : (s : Setting) (a : AccountValue) (reading : ℤ) (reference bytes : List ℕ) (o : Outcome) (b : History)
-    (short : Bool) (e : Effect) → KeepsWithinSize s a reading reference bytes o b short e → InstallsNone e
-keeps_none s a reading reference bytes o b true e is =
-    unless_none s a reading reference bytes o b (cause_of o.searching) e is
-keeps_none s a reading reference bytes o b false e is = subst InstallsNone (sym is) (λ c. refl)
 
 adds_none : (e : Effect) → e.adds ≡ [] → InstallsNone e
 adds_none e none b = ap (λ xs. latest_identity (xs ++ b)) none
@@ -135,7 +99,7 @@ kept_by : (Q : Option InstalledValue → InForce → Type 0) → IsOfBrought Q
     → Q (latest_identity b) s.in_force → Q (latest_identity (e.adds ++ b)) (in_force_after s.in_force c e.says)
 kept_by Q first s (Stamp account reading octets) o b e h k =
     still Q s.in_force b e
-    (subst InstallsNone (sym h.2) (stamp_found_none s (name_of account) octets o b h.0)) k
+    (subst InstallsNone (sym h.2) (stamp_none for_reply (λ r token c. refl) s (name_of account) octets o b h.0)) k
 kept_by Q first s (Begin account reading octets) o b e h k =
     still Q s.in_force b e
     (subst InstallsNone (sym h.2) (begin_found_none s (name_of account) octets o b h.0)) k
@@ -148,7 +112,9 @@ kept_by Q first s (Abandon p) o b e h k =
     (subst InstallsNone (sym h) (λ c. refl)) k
 kept_by Q first s (Deposit a reading reference bytes) o b e h k =
     still Q s.in_force b e
-    (keeps_none s a reading reference bytes o b (nat_le (length bytes) 1_048_576) e h) k
+    (deposit_has InstallsNone refused_none s a reading reference bytes o b (λ d is c. refl)
+    (λ unused spelled f found. stamp_none (for_deposit a.name reference bytes) (λ r token c. refl) s a.name
+    (octets_for s.file a bytes) o b f) (nat_le (length bytes) 1_048_576) e h) k
 kept_by Q first s (Show a n) o b e h k =
     still Q s.in_force b e
     (adds_none e (ap (λ x. x.adds) h ∙ shows_none (cause_of o.searching) _ (seen_by (viewer_in s.file a.name) n b))) k

@@ -12,7 +12,7 @@ use Rattle.book.specs.Continuation.{Floor, IsAboveIfAny, continued}
 use Rattle.book.specs.History.{Entry, Reserved, Sealed, Deposited, Calibrated, Held, Granted, Revoked, Installed}
 use Rattle.book.specs.History.{CalibrationValue, HoldValue, InstalledValue, History, calibrations, holds, token_of}
 use Rattle.book.specs.History.{deposit_at}
-use Rattle.book.specs.History.{ReservationValue, reservation_at, deposit_under, latest_calibration}
+use Rattle.book.specs.History.{ReservationValue, reservation_at, latest_calibration}
 use Rattle.book.specs.Identities.{latest_identity, identity_at_reservation}
 use Rattle.book.specs.Rights.{seen_by, listed}
 use Rattle.book.specs.Rows.{DepositRow}
@@ -31,7 +31,7 @@ use Rattle.desk.specs.Effects.{finish_effect, deposit_effect, deposit_found, sho
 use Rattle.desk.specs.Effects.{reply_or_nothing, no_sight, accepted, numbered, right_effect, calibrate_effect}
 use Rattle.desk.specs.Effects.{succeed_effect, name_of}
 use Rattle.desk.specs.declared.fault.Fault.TheVariants as fault
-use Rattle.desk.specs.MachineStep.{KeepsByReference, KeepsOnceSearched, KeepsWithinSize, HasEffect, IsMet}
+use Rattle.desk.specs.MachineStep.{KeepsWithinSize, HasEffect, IsMet}
 use Rattle.desk.specs.MachineRuns.{IsProper, Told, Journey, begins, opens, opens_older, shuts, rests, enters, breaks}
 use Rattle.desk.specs.MachineRuns.{goes, stops, after, cut}
 use Rattle.desk.specs.MachineRuns.{continues}
@@ -44,7 +44,7 @@ use Rattle.desk.specs.Continuation.{IsStatedIfAny}
 use Rattle.desk.specs.Names.{IsNameableFor}
 use Rattle.desk.specs.Succession.{installed_by, is_latest, HasSubject, IsNameable}
 use Rattle.desk.specs.Viewers.{viewer_in}
-use Rattle.desk.proofs.Branches.{if_has, unless_has, right_has}
+use Rattle.desk.proofs.Branches.{if_has, unless_has, right_has, deposit_has}
 use Rattle.desk.proofs.Given.{just_found}
 use Rattle.desk.proofs.Headline.{SealedBy, stamping_by}
 use Rattle.desk.proofs.Installation.{IsOf, latest_where, in_force_kept, latest_kept, of_in_force, brought_in_force}
@@ -360,36 +360,16 @@ known_if b a reading reference bytes d true e at own under =
     (at ∙ ap Some (same_row a reference bytes d own under (same_octets d.bytes bytes e)), deposit_sealed b d.serial d at)
 known_if b a reading reference bytes d false e at own under = tt
 
-keeps_under_stands : (s : Setting) (b : History) → AreGood b → IsOf (latest_identity b) s.in_force
-    → (a : AccountValue) (reading : ℤ) (reference bytes : List ℕ) (o : Outcome) (e : Effect)
-    → (under : Option DepositRow) → deposit_under a.name reference b ≡ under
-    → KeepsByReference s a reading reference bytes o b under e
-    → StandsAfter (Deposit a reading reference bytes) b e
-keeps_under_stands s b g k a reading reference bytes o e (Some d) is h =
-    let u = found_under b (fits_along b g) a.name reference d is in
-    subst (StandsAfter (Deposit a reading reference bytes) b) (sym h)
-    (known_if b a reading reference bytes d (bytes_eq d.bytes bytes) refl u.at_number u.owner_is u.reference_is)
-keeps_under_stands s b g k a reading reference bytes o e None is h =
-    subst (StandsAfter (Deposit a reading reference bytes) b) (sym h.1.2)
-    (deposit_found_stands s b a reading reference bytes o k h.1.0)
-
-keeps_unless_stands : (s : Setting) (b : History) → AreGood b → IsOf (latest_identity b) s.in_force
-    → (a : AccountValue) (reading : ℤ) (reference bytes : List ℕ) (o : Outcome) (e : Effect)
-    → (refused : Option Cause) → KeepsOnceSearched s a reading reference bytes o b refused e
-    → StandsAfter (Deposit a reading reference bytes) b e
-keeps_unless_stands s b g k a reading reference bytes o e (Some cause) h = subst
-    (StandsAfter (Deposit a reading reference bytes) b) (sym h) tt
-keeps_unless_stands s b g k a reading reference bytes o e None h =
-    keeps_under_stands s b g k a reading reference bytes o e (deposit_under a.name reference b) refl h
-
-keeps_stands : (s : Setting) (b : History) → AreGood b → IsOf (latest_identity b) s.in_force
+deposit_keeps : (s : Setting) (b : History) → AreGood b → IsOf (latest_identity b) s.in_force
     → (a : AccountValue) (reading : ℤ) (reference bytes : List ℕ) (o : Outcome) (e : Effect)
     → (short : Bool) → KeepsWithinSize s a reading reference bytes o b short e
     → StandsAfter (Deposit a reading reference bytes) b e
-keeps_stands s b g k a reading reference bytes o e true h = keeps_unless_stands s b g k a reading reference bytes o e
-    (cause_of o.searching) h
-keeps_stands s b g k a reading reference bytes o e false h = subst (StandsAfter (Deposit a reading reference bytes) b)
-    (sym h) tt
+deposit_keeps s b g k a reading reference bytes o e short h =
+    deposit_has (StandsAfter (Deposit a reading reference bytes) b) (λ f. tt) s a reading reference bytes o b
+    (λ d is.
+    let u = found_under b (fits_along b g) a.name reference d is in
+    known_if b a reading reference bytes d (bytes_eq d.bytes bytes) refl u.at_number u.owner_is u.reference_is)
+    (λ unused spelled f found. deposit_found_stands s b a reading reference bytes o k f) short e h
 
 -- what is shown is a deposit that stands, and the token of one
 deposit_shown : (b : History) (a : AccountValue) (n : ℕ) (refused : Option Cause) (seen : Option DepositRow)
@@ -451,7 +431,7 @@ step_stands s (Finish p signature) o b e g k h = subst (StandsAfter (Finish p si
     (finish_stands b p signature (no_seal o))
 step_stands s (Abandon p) o b e g k h = subst (StandsAfter (Abandon p) b) (sym h) tt
 step_stands s (Deposit a reading reference bytes) o b e g k h =
-    keeps_stands s b g (not_entering k) a reading reference bytes o e
+    deposit_keeps s b g (not_entering k) a reading reference bytes o e
     (nat_le (length bytes) 1_048_576) h
 step_stands s (Show a n) o b e g k h =
     let P : Effect → Type 0 = λ x. StandsAfter (Show a n) b x in

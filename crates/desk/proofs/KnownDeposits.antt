@@ -18,11 +18,12 @@ use Rattle.desk.specs.Command.{Setting, Command, Stamp, Begin, Finish, Abandon, 
 use Rattle.desk.specs.Command.{Revoke, Calibrate, Hold, Succeed, Answer, Stamped, Rejected, Begun, Kept, Shown, Listed}
 use Rattle.desk.specs.Command.{Done, Numbered, Refused}
 use Rattle.desk.specs.Fit.{IsFit}
-use Rattle.desk.specs.NewDeposit.{known_in, IsUnused, StepsWhere}
+use Rattle.desk.specs.NewDeposit.{known_in, IsUnused}
 use Rattle.desk.specs.Effects.{only, fault_of, too_large}
 use Rattle.desk.specs.Outcome.{Outcome, faults_after, all_fine}
 use Rattle.desk.specs.MachineStep.{HasEffect, KeepsWithinSize, KeepsOnceSearched, KeepsByReference}
-use Rattle.desk.specs.CallContract.{StepsBy, IsBlamed, IsBlamedFor, IsExcused, IsOpened, SignerStep, with_signer}
+use Rattle.desk.specs.CallContract.{StepsBy, StepsWhere, IsBlamed, IsBlamedFor, IsExcused, IsOpened, SignerStep}
+use Rattle.desk.specs.CallContract.{with_signer}
 use Rattle.desk.specs.declared.new_deposit.Known.{Known}
 use Rattle.desk.specs.declared.new_deposit.Known.TheVariants as known
 use Rattle.desk.specs.declared.fault.Fault.{Fault}

@@ -13,6 +13,7 @@ pub mod ClosedBooks
 pub mod Committed
 pub mod CompletionLemmas
 pub mod Denied
+pub mod Endings
 pub mod Entered
 pub mod FallingSerials
 pub mod FalseVariants
@@ -39,7 +40,6 @@ pub mod Rows
 pub mod RisingOn
 pub mod RunsOn
 pub mod SameEffect
-pub mod Seals
 pub mod Shows
 pub mod Sighted
 pub mod Sound

@@ -1,37 +1,37 @@
 -- What another account's command leaves of what an account may know.
-use Rattle.std.proofs.Common.{◌≡◌, ℕ, ◌<◌, ◌≤◌, ◌==◌, ◌&&◌, ◌||◌, nat_le, cond, ℤ, Bool, true, false, List, [], ◌∷◌}
+use Rattle.std.proofs.Common.{◌≡◌, ℕ, ◌<◌, ◌≤◌, ◌==◌, ◌&&◌, ◌||◌, nat_le, cond, Bool, true, false, List, [], ◌∷◌}
 use Rattle.std.proofs.Common.{◌++◌, length, Option, Some, None, refl, sym, ◌∙◌, ap, subst, inl, inr, arith}
 use Rattle.std.specs.Prelude.{filter, map, option_map}
 use Rattle.std.specs.Option.{option_and_then}
 use Rattle.std.specs.Str.{bytes_eq}
 use Rattle.std.proofs.lemmas.Bool.{eqb-true}
-use Rattle.policy.specs.Record.{AccountValue}
 use Rattle.book.specs.Rows.{StampRow, DepositRow}
 use Rattle.book.specs.History.{deposits, Reserved, Sealed, Deposited, Calibrated, Held, Granted, Revoked, Installed}
 use Rattle.book.specs.History.{History, ReservationValue, reservations, stamps, stamp_of, greatest_of, greatest_serial}
-use Rattle.book.specs.History.{token_of, reservation_at, deposit_at, deposit_under}
+use Rattle.book.specs.History.{token_of, reservation_at, deposit_at}
 use Rattle.book.specs.Readers.{Reader, is_same, Viewer}
 use Rattle.book.specs.Rights.{seen_by, shown_to, is_reader, may_read, listed}
 use Rattle.book.proofs.Rights.{reader_after_grant, reader_after_revocation}
 use Rattle.book.specs.Sound.{Along, Fits, FitsRight}
 use Rattle.book.specs.Values.{deposit_of}
 use Rattle.desk.specs.Agreement.{SeenValue, seen_as, seen_at}
-use Rattle.desk.specs.Outcome.{Outcome, Cause, cause_of}
-use Rattle.desk.specs.Findings.{Finding, Fails, Unanswered, Allowed}
+use Rattle.desk.specs.Outcome.{Outcome, cause_of}
+use Rattle.desk.specs.Findings.{Finding}
 use Rattle.desk.specs.Command.{Setting, Command, Stamp, Begin, Finish, Abandon, Deposit, Show, Token, ListAll, Grant}
 use Rattle.desk.specs.Command.{Revoke, Calibrate, Hold, Succeed, Listed}
 use Rattle.desk.specs.Texts.{octets_for}
-use Rattle.desk.specs.Effects.{Effect, unless, Stamping, Unreserved, Void, Sealing, no_number, next_reservation}
-use Rattle.desk.specs.Effects.{stamping_of, stamp_effect, stamp_found, deposit_effect, deposit_found}
+use Rattle.desk.specs.Effects.{Effect, unless, next_reservation}
 use Rattle.desk.specs.Effects.{right_effect, no_sight}
-use Rattle.desk.specs.MachineStep.{KeepsByReference, KeepsOnceSearched, KeepsWithinSize, HasEffect}
+use Rattle.desk.specs.MachineStep.{HasEffect}
 use Rattle.desk.specs.Laws.{IsCommandOfOther, Concerns, StaysFor}
 use Rattle.desk.specs.Viewers.{viewer_in}
 use Rattle.desk.proofs.Readers.{nobody_reads, seen_beside_grant, seen_beside_revocation}
 use Rattle.desk.proofs.Views.{sealed_below, deposit_sealed}
 use Rattle.desk.proofs.StepFacts.{right_seen, shows_none, tokens_none, answers_none, IsAtMost, at_most_unless}
 use Rattle.desk.proofs.StepFacts.{right_at_most}
-use Rattle.desk.proofs.Agreement.{differ, seen_beside, IsNext, next_stamping, next_above}
+use Rattle.desk.proofs.Agreement.{differ, seen_beside, next_above}
+use Rattle.desk.specs.Effects.{Purpose, purpose_found, for_reply, for_deposit}
+use Rattle.desk.proofs.Branches.{stamp_has, deposit_has}
 
 deposit_below : (b : History) → Along Fits b → (n : ℕ) → FitsRight n b → n ≤ greatest_serial b
 deposit_below b sound n fits =
@@ -228,96 +228,20 @@ revoked_stays viewer n x e b (inr h) =
       identity = refl;
     })
 
--- a stamping by another account
-other_of : (viewer : Viewer) (r next : ReservationValue) → r ≡ next → bytes_eq next.account viewer.name ≡ false
-    → bytes_eq r.account viewer.name ≡ false
-other_of viewer r next e h = subst (λ x. bytes_eq x.account viewer.name ≡ false) (sym e) h
-
-above_next : (r next : ReservationValue) (n : ℕ) → r ≡ next → n < next.serial → n < r.serial
-above_next r next n e h = subst (λ x. n < x.serial) (sym e) h
-
-stamp_stays : (viewer : Viewer) (concerned : ℕ → Type 0) (s : Setting) (b : History) → Along Fits b
-    → (next : ReservationValue) → bytes_eq next.account viewer.name ≡ false
-    → greatest_serial b < next.serial → (st : Stamping) → IsNext next st
-    → StaysFor viewer concerned b ((stamp_effect s st).adds ++ b)
-stamp_stays viewer concerned s b sound next other above (Unreserved cause) h = same_stays viewer concerned b
-stamp_stays viewer concerned s b sound next other above (Void r cause) h =
-    other_reserved viewer concerned b r sound (other_of viewer r next h other) (above_next r next
-    (greatest_serial b) h above)
-stamp_stays viewer concerned s b sound next other above (Sealing r token) h =
-    other_sealed viewer concerned b r token sound (other_of viewer r next h other) (above_next r next
-    (greatest_serial b) h above)
-
-deposit_stays_for : (viewer : Viewer) (concerned : ℕ
-    → Type 0) (s : Setting) (owner reference bytes : List ℕ) (b : History) → Along Fits b → (next : ReservationValue)
-    → bytes_eq owner viewer.name ≡ false → bytes_eq next.account viewer.name ≡ false → greatest_serial b < next.serial
-    → (st : Stamping) → IsNext next st
-    → StaysFor viewer concerned b ((deposit_effect s owner reference bytes st).adds ++ b)
-deposit_stays_for viewer concerned s owner reference bytes b sound next mine other above
-    (Unreserved cause) h = same_stays viewer concerned b
-deposit_stays_for viewer concerned s owner reference bytes b sound next mine other above (Void r cause) h =
-    other_reserved viewer concerned b r sound (other_of viewer r next h other) (above_next r next
-    (greatest_serial b) h above)
-deposit_stays_for viewer concerned s owner reference bytes b sound next mine other above (Sealing r token) h =
-    other_deposited viewer concerned b r owner reference bytes token sound mine (other_of viewer r next h other)
-    (above_next r next (greatest_serial b) h above)
-
-stamp_found_stays : (viewer : Viewer) (concerned : ℕ
-    → Type 0) (s : Setting) (name octets : List ℕ) (o : Outcome) (b : History) → Along Fits b
-    → bytes_eq name viewer.name ≡ false
-    → (f : Finding) → StaysFor viewer concerned b ((stamp_found s name octets o b f).adds ++ b)
-stamp_found_stays viewer concerned s name octets o b sound other (Fails rule) = same_stays viewer concerned b
-stamp_found_stays viewer concerned s name octets o b sound other (Unanswered cause) = same_stays viewer concerned b
-stamp_found_stays viewer concerned s name octets o b sound other (Allowed plan) =
-    stamp_stays viewer concerned s b sound (next_reservation s name plan octets b) other
-    (next_above s name plan octets b)
-    (stamping_of s name plan octets o b (no_number o b)) (next_stamping s name plan octets o b (no_number o b))
-
-deposit_found_stays : (viewer : Viewer) (concerned : ℕ
-    → Type 0) (s : Setting) (owner reference bytes octets : List ℕ) (o : Outcome) (b : History) → Along Fits b
-    → bytes_eq owner viewer.name ≡ false → (f : Finding)
-    → StaysFor viewer concerned b ((deposit_found s owner reference bytes octets o b f).adds ++ b)
-deposit_found_stays viewer concerned s owner reference bytes octets o b sound other
-    (Fails rule) = same_stays viewer concerned b
-deposit_found_stays viewer concerned s owner reference bytes octets o b sound other
-    (Unanswered cause) = same_stays viewer concerned b
-deposit_found_stays viewer concerned s owner reference bytes octets o b sound other (Allowed plan) =
-    deposit_stays_for viewer concerned s owner reference bytes b sound
-    (next_reservation s owner plan octets b) other other (next_above s owner plan octets b)
-    (stamping_of s owner plan octets o b (no_number o b)) (next_stamping s owner plan octets o b (no_number o b))
-
-keeps_under_stays : (viewer : Viewer) (concerned : ℕ
-    → Type 0) (s : Setting) (a : AccountValue) (reading : ℤ) (reference bytes : List ℕ) (o : Outcome) (b : History)
-    (e : Effect)
-    → Along Fits b → bytes_eq a.name viewer.name ≡ false → (known : Option DepositRow)
-    → KeepsByReference s a reading reference bytes o b known e → StaysFor viewer concerned b (e.adds ++ b)
-keeps_under_stays viewer concerned s a reading reference bytes o b e sound other
-    (Some d) h = none_stays viewer concerned e b (ap (λ x. x.adds) h)
-keeps_under_stays viewer concerned s a reading reference bytes o b e sound other None h =
-    subst (λ x. StaysFor viewer concerned b (x.adds ++ b)) (sym h.1.2)
-    (deposit_found_stays viewer concerned s a.name reference bytes
-    (octets_for s.file a bytes) o b sound other h.1.0)
-
-keeps_unless_stays : (viewer : Viewer) (concerned : ℕ
-    → Type 0) (s : Setting) (a : AccountValue) (reading : ℤ) (reference bytes : List ℕ) (o : Outcome) (b : History)
-    (e : Effect)
-    → Along Fits b → bytes_eq a.name viewer.name ≡ false → (refused : Option Cause)
-    → KeepsOnceSearched s a reading reference bytes o b refused e → StaysFor viewer concerned b (e.adds ++ b)
-keeps_unless_stays viewer concerned s a reading reference bytes o b e sound other
-    (Some cause) h = none_stays viewer concerned e b (ap (λ x. x.adds) h)
-keeps_unless_stays viewer concerned s a reading reference bytes o b e sound other None h =
-    keeps_under_stays viewer concerned s a reading reference bytes o b e sound other
-    (deposit_under a.name reference b) h
-
-keeps_stays : (viewer : Viewer) (concerned : ℕ
-    → Type 0) (s : Setting) (a : AccountValue) (reading : ℤ) (reference bytes : List ℕ) (o : Outcome) (b : History)
-    (e : Effect)
-    → Along Fits b → bytes_eq a.name viewer.name ≡ false → (short : Bool)
-    → KeepsWithinSize s a reading reference bytes o b short e → StaysFor viewer concerned b (e.adds ++ b)
-keeps_stays viewer concerned s a reading reference bytes o b e sound other true h =
-    keeps_unless_stays viewer concerned s a reading reference bytes o b e sound other (cause_of o.searching) h
-keeps_stays viewer concerned s a reading reference bytes o b e sound other false h = none_stays viewer concerned e
-    b (ap (λ x. x.adds) h)
+-- a stamp of another account
+stamp_stays : (viewer : Viewer) (concerned : ℕ → Type 0) (u : Purpose) (s : Setting) (name octets : List ℕ)
+    (o : Outcome) (b : History) → Along Fits b → bytes_eq name viewer.name ≡ false
+    → ((r : ReservationValue) (token : List ℕ) → bytes_eq r.account viewer.name ≡ false
+    → greatest_serial b < r.serial
+    → StaysFor viewer concerned b (u.keeping.adds r.serial token ∷ Reserved r ∷ b))
+    → (f : Finding) → StaysFor viewer concerned b ((purpose_found u s name octets o b f).adds ++ b)
+stamp_stays viewer concerned u s name octets o b sound other kept f =
+    stamp_has (λ e. StaysFor viewer concerned b (e.adds ++ b)) u s name octets o b
+    (λ rule. same_stays viewer concerned b) (λ cause. same_stays viewer concerned b) f
+    (λ plan is left.
+    let r = next_reservation s name plan octets b in
+    let above = next_above s name plan octets b in
+    (λ cause. other_reserved viewer concerned b r sound other above, λ token. kept r token other above))
 
 -- what another account's command leaves
 pub step_stays : (account : List ℕ) (s : Setting) (x : Command) (o : Outcome) (b : History) (e : Effect)
@@ -327,13 +251,19 @@ step_stays account s (Stamp None reading octets) o b e sound other h = absurd ot
 step_stays account s (Stamp (Some a) reading octets) o b e sound other h =
     let viewer = viewer_in s.file account in
     subst (λ y. StaysFor viewer (λ n. ⊥) b (y.adds ++ b)) (sym h.2)
-    (stamp_found_stays viewer (λ n. ⊥) s a.name octets o b sound other h.0)
+    (stamp_stays viewer (λ n. ⊥) for_reply s a.name octets o b sound other
+    (λ r token another above. other_sealed viewer (λ n. ⊥) b r token sound another above) h.0)
 step_stays account s (Begin by reading octets) o b e sound other h = absurd other
 step_stays account s (Finish p signature) o b e sound other h = absurd other
 step_stays account s (Abandon p) o b e sound other h = absurd other
 step_stays account s (Deposit a reading reference bytes) o b e sound other h =
-    keeps_stays (viewer_in s.file account) (λ n. ⊥) s a reading reference bytes o b e sound other
-    (nat_le (length bytes) 1_048_576) h
+    let viewer = viewer_in s.file account in
+    deposit_has (λ x. StaysFor viewer (λ n. ⊥) b (x.adds ++ b)) (λ f. same_stays viewer (λ n. ⊥) b) s a reading
+    reference bytes o b (λ d is. same_stays viewer (λ n. ⊥) b)
+    (λ unused spelled f found. stamp_stays viewer (λ n. ⊥) (for_deposit a.name reference bytes) s a.name
+    (octets_for s.file a bytes) o b sound other
+    (λ r token another above. other_deposited viewer (λ n. ⊥) b r a.name reference bytes token sound other another
+    above) f) (nat_le (length bytes) 1_048_576) e h
 step_stays account s (Show a n) o b e sound other h =
     none_stays (viewer_in s.file account) (λ m. ⊥) e b
     (ap (λ x. x.adds) h ∙ shows_none (cause_of o.searching) (no_sight o) (seen_by (viewer_in s.file a.name) n b))

@@ -28,11 +28,12 @@ use Rattle.desk.specs.Command.{Setting, Command, Stamp, Begin, Finish, Abandon, 
 use Rattle.desk.specs.Command.{Revoke, Calibrate, Hold, Succeed, Listed}
 use Rattle.book.specs.Sound.{greatest_number}
 use Rattle.desk.specs.Texts.{octets_for, reservation_of, pending_of}
-use Rattle.desk.specs.Effects.{Stamping, Unreserved, signed_or_void, stamping_of, stamp_effect, deposit_effect}
-use Rattle.desk.specs.Effects.{no_number, reply_or_nothing, Effect, only, unless, stamp_found, deposit_found}
+use Rattle.desk.specs.Effects.{Stamping, Unreserved, signed_or_void, stamping_of}
+use Rattle.desk.specs.Effects.{no_number, reply_or_nothing, Effect, only, unless}
 use Rattle.desk.specs.Effects.{show_effect, token_effect, right_effect}
 use Rattle.desk.specs.MachineStep.{KeepsByReference, KeepsOnceSearched, KeepsWithinSize, HasEffect}
 use Rattle.desk.specs.Viewers.{viewer_in}
+use Rattle.desk.specs.Effects.{Purpose, purpose_effect, purpose_found, for_reply, for_deposit}
 
 -- the day's count is that of the account's own stamps
 abbrev own_by : List ℕ → StampRow → Bool
@@ -153,21 +154,11 @@ stamping_same s account plan octets o b c e =
     ∙ (ap (λ n. stamping_with s account plan octets o n (no_number o c)) e
     ∙ sym (stamping_as s account plan octets o c (no_number o c))))
 
-pub stamp_found_same : (s : Setting) (account octets : List ℕ) (o : Outcome) (b c : History) (f : Finding)
-    → greatest_serial b ≡ greatest_serial c
-    → stamp_found s account octets o b f ≡ stamp_found s account octets o c f
-stamp_found_same s account octets o b c (Fails rule) e = refl
-stamp_found_same s account octets o b c (Unanswered cause) e = refl
-stamp_found_same s account octets o b c (Allowed plan) e = ap (stamp_effect s)
-    (stamping_same s account plan octets o b c e)
-
-deposit_found_same : (s : Setting) (owner reference bytes octets : List ℕ) (o : Outcome) (b c : History)
-    (f : Finding) → greatest_serial b ≡ greatest_serial c
-    → deposit_found s owner reference bytes octets o b f ≡ deposit_found s owner reference bytes octets o c f
-deposit_found_same s owner reference bytes octets o b c (Fails rule) e = refl
-deposit_found_same s owner reference bytes octets o b c (Unanswered cause) e = refl
-deposit_found_same s owner reference bytes octets o b c (Allowed plan) e =
-    ap (deposit_effect s owner reference bytes) (stamping_same s owner plan octets o b c e)
+pub found_same : (u : Purpose) (s : Setting) (name octets : List ℕ) (o : Outcome) (b c : History) (f : Finding)
+    → greatest_serial b ≡ greatest_serial c → purpose_found u s name octets o b f ≡ purpose_found u s name octets o c f
+found_same u s name octets o b c (Fails rule) e = refl
+found_same u s name octets o b c (Unanswered cause) e = refl
+found_same u s name octets o b c (Allowed plan) e = ap (purpose_effect u s) (stamping_same s name plan octets o b c e)
 
 -- a deposit under a reference is among the owner's own
 abbrev under : List ℕ → List ℕ → DepositRow → Bool
@@ -279,7 +270,7 @@ under_found_same s a reading reference bytes o b c e agree None h =
       (
         h.1.0,
         finds_same s.file (Some a) reading octets o b c h.1.0 (facts_same s.file a reading b c agree) h.1.1,
-        h.1.2 ∙ deposit_found_same s a.name reference bytes octets o b c h.1.0
+        h.1.2 ∙ found_same (for_deposit a.name reference bytes) s a.name octets o b c h.1.0
             (greatest_same (viewer_in s.file a.name) b c agree),
       ),
     )
@@ -314,7 +305,7 @@ effect_same account s (Stamp (Some a) reading octets) o b c e agree own h =
     let g = agree_as s.file a.name account b c own agree in (
       h.0,
       finds_same s.file (Some a) reading octets o b c h.0 (facts_same s.file a reading b c g) h.1,
-      h.2 ∙ stamp_found_same s a.name octets o b c h.0 (greatest_same (viewer_in s.file a.name) b c g),
+      h.2 ∙ found_same for_reply s a.name octets o b c h.0 (greatest_same (viewer_in s.file a.name) b c g),
     )
 effect_same account s (Begin by reading octets) o b c e agree own h = absurd own
 effect_same account s (Finish p signature) o b c e agree own h = absurd own

@@ -77,6 +77,15 @@ pub unsealed_above : (b : History) → Along Fits b → (n : ℕ) → greatest_s
 unsealed_above b sound n above = none_where (token_of n b)
     (λ t e. let low = sealed_below b sound n t e in omega arith)
 
+-- a reservation that was just added is found, and isn't sealed
+abbrev pub fits_seal : (r : ReservationValue) (b : History) → Along Fits b → greatest_serial b < r.serial
+    → FitsSealed r.serial (Reserved r ∷ b)
+fits_seal r b sound above = record {
+  reservation = r;
+  reserved = rw (eq-eqb r.serial r.serial refl);
+  open_yet = unsealed_above b sound r.serial above;
+}
+
 -- a reservation stays
 reservation_beside : (n : ℕ) (b : History) (x r : ReservationValue) (same : Bool) → (x.serial == n) ≡ same
     → FitsReserved x b

@@ -5,6 +5,7 @@ use Rattle.desk.specs.Command.{Answer}
 use Rattle.book.specs.declared.fault.StoreFault.{StoreFault}
 use Rattle.desk.specs.Calls.{cause_with, store_cause}
 use Rattle.desk.specs.Effects.{fault_of}
+use Rattle.desk.specs.Outcome.{Cause}
 use Rattle.desk.specs.declared.fault.Fault.{Fault}
 use Rattle.desk.specs.declared.refusal.StampRefusal.{StampRefusal}
 use Rattle.desk.specs.declared.reply.Begun.{Begun}
@@ -29,6 +30,11 @@ answered as_answer (Err fault) = answer.Refused fault
 abbrev pub told : {A : Type 0} → (A → Answer) → Result A StampRefusal → Answer
 told as_answer (Ok a) = as_answer a
 told as_answer (Err refusal) = answer.Refused (fault_of (cause_with refusal))
+
+-- the same where the command goes on from it
+abbrev pub ended_as : {A : Type 0} → (A → Answer) → Result A StampRefusal → Result Answer Cause
+ended_as as_answer (Ok a) = Ok (as_answer a)
+ended_as as_answer (Err refusal) = Err (cause_with refusal)
 
 -- a calibration or a hold is added under its number, or the store refuses it
 abbrev pub entered : Result ℕ StoreFault → Answer

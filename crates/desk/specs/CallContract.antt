@@ -161,15 +161,19 @@ IsOpened g c (Refused f) new = Unit {0}
 -- A call is a step of the machine under an outcome, in which the calls that the command doesn't make are fine. The
 -- counts of faults of store and signer are the outcome's, and they are named only where the outcome says that they
 -- failed, or the store is excused, whatever it returns. While it returns what was written, what holds after it is the
--- step's, from each history that the store stood for.
-pub record StepsBy {B : Type 0} (g : Ghosts B) (t : SignerStep) (s : Setting) (c : Command) (o : Outcome)
-    (old new : B) (answer : Answer) : Type 0 where
+-- step's, from each history that the store stood for, and of which P holds.
+pub record StepsWhere {B : Type 0} (g : Ghosts B) (t : SignerStep) (s : Setting) (c : Command) (P : History → Type 0)
+    (o : Outcome) (old new : B) (answer : Answer) : Type 0 where
   pub fits : IsFit c o
   pub counted : g.fault_count new ≡ faults_after o (g.fault_count old)
   pub signer : t.counts o.signing
   pub blames : IsBlamed g c o old new answer
   pub opened : g.honest new → IsOpened g c answer new
-  pub steps : g.honest new → (b : History) → Stands g b old → IsMet c b → HasStepped g t s c o b old new answer
+  pub steps : g.honest new → (b : History) → Stands g b old → P b → HasStepped g t s c o b old new answer
+
+-- the same where the caller's condition is met
+abbrev pub StepsBy : {B : Type 0} → Ghosts B → SignerStep → Setting → Command → Outcome → B → B → Answer → Type 0
+StepsBy g t s c o old new answer = StepsWhere g t s c (IsMet c) o old new answer
 
 -- the same under some outcome: a stepping stone of the proofs
 abbrev pub IsBareStep : {B : Type 0} → Ghosts B → SignerStep → Setting → Command → B → B → Answer

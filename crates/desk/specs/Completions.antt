@@ -8,7 +8,7 @@ use Rattle.cms.specs.declared.signer.SignerFault.{SignerFault}
 use Rattle.book.specs.History.{History}
 use Rattle.desk.specs.Batches.{SealValue, seals, all_sealed}
 use Rattle.desk.specs.Command.{PendingValue, Answer}
-use Rattle.desk.specs.Effects.{Effect}
+use Rattle.desk.specs.Effects.{Effect, for_reply}
 use Rattle.desk.specs.Fit.{IsUncounted}
 use Rattle.desk.specs.MachineStep.{IsWaiting}
 use Rattle.desk.specs.Outcome.{Call, Fine, Outcome, all_fine}
@@ -33,7 +33,7 @@ finished sealing z = record (all_fine (Ok [])) { wrapping = z.wrapping; sealing 
 
 -- its effect, once it was reserved: its seal, or nothing, and its reply
 abbrev pub completed : Call → Completion → Effect
-completed sealing z = stamped z.pending z.signing [] (finished sealing z)
+completed sealing z = stamped for_reply z.pending z.signing [] (finished sealing z)
 
 -- the seals of all of them, in their order
 abbrev pub seals_of : Call → List Completion → List SealValue

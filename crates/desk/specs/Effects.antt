@@ -6,6 +6,7 @@ use Rattle.std.specs.Str.{bytes_eq}
 use Rattle.policy.specs.Record.{AccountValue, PolicyValue}
 use Rattle.policy.specs.Kinds.{is_among}
 use Rattle.policy.specs.LookUp.{group_named}
+use Rattle.tsp.specs.declared.rule.Rule.{Rule}
 use Rattle.tsp.specs.declared.rule.Rule.TheVariants.{System}
 use Rattle.cms.specs.SignedData.{attribute_text}
 use Rattle.cms.specs.declared.signer.SignerFault.{SignerFault}
@@ -80,30 +81,72 @@ stamping_of s account plan octets o b (Some cause) = Unreserved cause
 stamping_of s account plan octets o b None =
     let r = next_reservation s account plan octets b in signed_or_void (pending_of s plan r) r o.signing o
 
--- Stamp: the reply is the token, the rejection by the first rule that fails, or the rejection by rule 12
-abbrev pub stamp_effect : Setting → Stamping → Effect
-stamp_effect s (Unreserved cause) = only (Rejected System)
-stamp_effect s (Void r cause) = record {
-  adds = Reserved r
-      ∷ [];
-  asks = Some (attribute_text s.in_force.identity r.tst);
-  says = Rejected System;
+-- what a token is kept in, under its serial number, and what is answered then
+pub record Keeping : Type 0 where
+  pub adds : ℕ → List ℕ → Entry
+  pub says : ℕ → List ℕ → Answer
+
+-- its seal, and the reply with it
+abbrev pub in_seal : Keeping
+in_seal = record {
+  adds = λ serial token. Sealed serial token;
+  says = λ serial token. Stamped serial (granted_octets token);
 }
-stamp_effect s (Sealing r token) = record {
-  adds = Sealed r.serial token ∷ Reserved r ∷ [];
-  asks = Some (attribute_text s.in_force.identity r.tst);
-  says = Stamped r.serial (granted_octets token);
+
+-- one entry with a deposit
+abbrev pub in_deposit : List ℕ → List ℕ → List ℕ → Keeping
+in_deposit owner reference bytes = record {
+  adds = λ serial token. Deposited (deposit_of serial owner reference bytes) token;
+  says = λ serial token. Kept serial true;
 }
+
+-- What a stamp is made for: how its token is kept, and what is answered where a rule fails, and where there is no token
+-- for another cause.
+pub record Purpose : Type 0 where
+  pub keeping : Keeping
+  pub rejects : Rule → Answer
+  pub refuses : Cause → Answer
+
+-- the reply is the token, the rejection by the first rule that fails, or the rejection by rule 12
+abbrev pub for_reply : Purpose
+for_reply = record { keeping = in_seal; rejects = λ rule. Rejected rule; refuses = λ cause. Rejected System }
+
+abbrev pub for_deposit : List ℕ → List ℕ → List ℕ → Purpose
+for_deposit owner reference bytes = record {
+  keeping = in_deposit owner reference bytes;
+  rejects = λ rule. Refused (fault.Rejected rule);
+  refuses = λ cause. Refused (fault_of cause);
+}
+
+abbrev pub purpose_effect : Purpose → Setting → Stamping → Effect
+purpose_effect u s (Unreserved cause) = only (u.refuses cause)
+purpose_effect u s (Void r cause) = record {
+  adds = Reserved r ∷ [];
+  asks = Some (attribute_text s.in_force.identity r.tst);
+  says = u.refuses cause;
+}
+purpose_effect u s (Sealing r token) = record {
+  adds = u.keeping.adds r.serial token ∷ Reserved r ∷ [];
+  asks = Some (attribute_text s.in_force.identity r.tst);
+  says = u.keeping.says r.serial token;
+}
+
+abbrev pub purpose_found : Purpose → Setting → List ℕ → List ℕ → Outcome → History → Finding → Effect
+purpose_found u s account octets o b (Fails rule) = only (u.rejects rule)
+purpose_found u s account octets o b (Unanswered cause) = only (u.refuses cause)
+purpose_found u s account octets o b (Allowed plan) =
+    purpose_effect u s (stamping_of s account plan octets o b (no_number o b))
 
 abbrev pub name_of : Option AccountValue → List ℕ
 name_of None = []
 name_of (Some account) = account.name
 
+-- Stamp
+abbrev pub stamp_effect : Setting → Stamping → Effect
+stamp_effect s stamping = purpose_effect for_reply s stamping
+
 abbrev pub stamp_found : Setting → List ℕ → List ℕ → Outcome → History → Finding → Effect
-stamp_found s account octets o b (Fails rule) = only (Rejected rule)
-stamp_found s account octets o b (Unanswered cause) = only (Rejected System)
-stamp_found s account octets o b (Allowed plan) = stamp_effect s (stamping_of s account plan octets o b
-    (no_number o b))
+stamp_found s account octets o b found = purpose_found for_reply s account octets o b found
 
 -- Begin: the reservation alone, and what waits for its signature
 abbrev pub begin_effect : Setting → List ℕ → StampPlan → List ℕ → History → Option Cause → Effect
@@ -125,22 +168,13 @@ finish_effect p signature = record {
   says = Stamped p.serial (granted_octets (token_with p signature));
 }
 
--- Deposit: token and deposit stand in one entry
+-- Deposit
 abbrev pub deposit_effect : Setting → List ℕ → List ℕ → List ℕ → Stamping → Effect
-deposit_effect s owner reference bytes (Unreserved cause) = only (Refused (fault_of cause))
-deposit_effect s owner reference bytes (Void r cause) =
-    record { adds = Reserved r ∷ []; asks = Some (attribute_text s.in_force.identity r.tst); says = Refused (fault_of cause) }
-deposit_effect s owner reference bytes (Sealing r token) = record {
-  adds = Deposited (deposit_of r.serial owner reference bytes) token ∷ Reserved r ∷ [];
-  asks = Some (attribute_text s.in_force.identity r.tst);
-  says = Kept r.serial true;
-}
+deposit_effect s owner reference bytes stamping = purpose_effect (for_deposit owner reference bytes) s stamping
 
 abbrev pub deposit_found : Setting → List ℕ → List ℕ → List ℕ → List ℕ → Outcome → History → Finding → Effect
-deposit_found s owner reference bytes octets o b (Fails rule) = only (Refused (fault.Rejected rule))
-deposit_found s owner reference bytes octets o b (Unanswered cause) = only (Refused (fault_of cause))
-deposit_found s owner reference bytes octets o b (Allowed plan) =
-    deposit_effect s owner reference bytes (stamping_of s owner plan octets o b (no_number o b))
+deposit_found s owner reference bytes octets o b found =
+    purpose_found (for_deposit owner reference bytes) s owner octets o b found
 
 abbrev pub too_large : Answer
 too_large = Refused fault.TooLarge

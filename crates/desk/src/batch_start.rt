@@ -14,7 +14,7 @@ ghost use Rattle.desk.specs.declared.batch_start.Judged.TheVariants as judged;
 
 use crate::batch::{Asked, AskedBatch};
 use crate::commit::commit;
-use crate::findings::{Judgement, Planned, find, find_among};
+use crate::findings::{Judgement, Planned, find};
 use crate::reservation::prepare;
 use crate::settings::Settings;
 use crate::stamp_start::name_of;
@@ -68,7 +68,7 @@ fn judge_one<'p, 'a, B: Book + Drop>(
     ensures judges { JudgesOne B.Standing (settings_view settings.entry) (question_view asked.entry) waits.now result
         store.old store.new }
 {
-    match find_among(store, waits, settings.policy, asked) {
+    match find(store, waits, settings.policy, asked) {
         Ok(Judgement::Fails(rule)) => Judged::Fails(rule),
         Ok(Judgement::Allows(planned)) => await_one(alloc, settings, asked, planned),
         Err(_) => Judged::Fails(Rule::System),
@@ -178,7 +178,7 @@ fn settle_one<B: Book + Drop>(store: &mut B, settings: Settings<'_>, asked: Aske
     ensures judges { (reserving : Call) → (reserving ≡ Fine → ⊥) → JudgesOne B.Standing (settings_view settings.entry)
         (question_view asked.entry) [] (judged.Fails result) store.old store.new }
 {
-    match find(store, settings.policy, asked) {
+    match find(store, &[], settings.policy, asked) {
         Ok(Judgement::Fails(rule)) => rule,
         Ok(Judgement::Allows(_planned)) => Rule::System,
         Err(_) => Rule::System,

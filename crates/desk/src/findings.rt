@@ -134,8 +134,8 @@ fn ask<'p, 'a, B: Book + Drop>(
     }
 }
 
-/// Judges the rules 2 to 11 of a request in their order, once all that waits is reserved.
-fn judge_among<'p, 'a, B: Book + Drop>(
+/// Judges the rules 2 to 11 of a request in their order, once all that waits is reserved: `find`, once it is read.
+pub(crate) fn judge<'p, 'a, B: Book + Drop>(
     store: &mut B,
     waits: &[Waiting<'_, '_>],
     policy: &'p Policy,
@@ -167,35 +167,9 @@ fn judge_among<'p, 'a, B: Book + Drop>(
     }
 }
 
-/// Judges the rules 2 to 11 of a request in their order: `find`, once the request is read.
-pub(crate) fn judge<'p, 'a, B: Book + Drop>(
-    store: &mut B,
-    policy: &'p Policy,
-    requested: Requested<'_, 'a>,
-) -> Result<Judgement<'p, 'a>, StampRefusal>
-    ensures looks { OnlyLooks B.Standing store.old store.new }
-    ensures counted { B.fault_count store.new ≡ faults_after (outcome_of result) (B.fault_count store.old) }
-    ensures finds { B.honest store.new → (b : History) → Stands B.Standing b store.old → (octets : List ℕ)
-        → Spells octets (request_view requested.entry.request) → length octets ≤ 65536
-        → Finds (policy_view policy.now) (account_asked requested.entry.account) requested.entry.reading octets
-        (outcome_of result) b (finding_of result) }
-    ensures same { IfOk result (HasRequest (request_view requested.entry.request)) }
-    ensures late { HasVersionOne (request_view requested.entry.request) → IfOk result FailsLate }
-    ensures last { B.honest store.new → (b : History) → Stands B.Standing b store.old
-        → IfOk result (HasLast (greatest_serial b)) }
-    ensures unasked { (octets : List ℕ) → Spells octets (request_view requested.entry.request) → length octets ≤ 65536
-        → (rule : Rule) → IsFirstFailing (HoldsUnasked (policy_view policy.now)
-        (account_asked requested.entry.account) octets) rule
-        → (finding_of result ≡ Fails rule) × (store.new ≡ store.old) }
-    ensures somebody { IfErr result (IsSomebodys (account_asked requested.entry.account)) }
-    ensures refusals { IfErr result IsOfLooks }
-{
-    judge_among(store, &[], policy, requested)
-}
-
-/// Judges the rules 1 to 11 in their order, once all that waits is reserved: `find` among stamps that are answered
-/// together.
-pub(crate) fn find_among<'p, 'a, B: Book + Drop>(
+/// Judges the rules 1 to 11 in their order, once all that waits is reserved. A request that fails one of the rules 1 to
+/// 9 is answered without a call of the store and without memory; the day is counted only where the clock is good.
+pub(crate) fn find<'p, 'a, B: Book + Drop>(
     store: &mut B,
     waits: &[Waiting<'_, '_>],
     policy: &'p Policy,
@@ -224,29 +198,5 @@ pub(crate) fn find_among<'p, 'a, B: Book + Drop>(
         reading: asked.reading,
         request,
     };
-    judge_among(store, waits, policy, requested)
-}
-
-/// Judges the rules 1 to 11 in their order. A request that fails one of the rules 1 to 9 is answered without a call of
-/// the store and without memory; the day is counted only where the clock is good.
-pub(crate) fn find<'p, 'a, B: Book + Drop>(
-    store: &mut B,
-    policy: &'p Policy,
-    asked: Asked<'a>,
-) -> Result<Judgement<'p, 'a>, StampRefusal>
-    ensures looks { OnlyLooks B.Standing store.old store.new }
-    ensures counted { B.fault_count store.new ≡ faults_after (outcome_of result) (B.fault_count store.old) }
-    ensures finds { B.honest store.new → (b : History) → Stands B.Standing b store.old
-        → Finds (policy_view policy.now) (account_asked asked.entry.account) asked.entry.reading asked.entry.query.now
-        (outcome_of result) b (finding_of result) }
-    ensures read { IfOk result (IsReadFrom asked.entry.query.now) }
-    ensures last { B.honest store.new → (b : History) → Stands B.Standing b store.old
-        → IfOk result (HasLast (greatest_serial b)) }
-    ensures unasked { (rule : Rule)
-        → IsFirstFailing (HoldsUnasked (policy_view policy.now) (account_asked asked.entry.account)
-        asked.entry.query.now) rule → (finding_of result ≡ Fails rule) × (store.new ≡ store.old) }
-    ensures somebody { IfErr result (IsSomebodys (account_asked asked.entry.account)) }
-    ensures refusals { IfErr result IsOfLooks }
-{
-    find_among(store, &[], policy, asked)
+    judge(store, waits, policy, requested)
 }

@@ -10,16 +10,17 @@ ghost use Rattle.book.specs.Fault.{CountsFaults, IsOfStorage};
 ghost use Rattle.book.specs.History.{History, deposit_under, greatest_serial};
 ghost use Rattle.book.specs.Sound.{greatest_number};
 ghost use Rattle.book.specs.Stands.{Stands, OnlyLooks};
-ghost use Rattle.book.specs.Values.{deposit_of};
-ghost use Rattle.desk.specs.Answers.{answered, begun_as, told};
-ghost use Rattle.desk.specs.CallContract.{IsBareStep, StepsBy, no_signer, with_signer};
+ghost use Rattle.desk.specs.Answers.{answered, begun_as, ended_as, told};
+ghost use Rattle.desk.specs.CallContract.{IsBareStep, StepsBy, StepsWhere, no_signer, with_signer};
 ghost use Rattle.desk.specs.Calls.{outcome_of, settings_view, plan_of, IsOfBeginning, IsOfReserving, Reserves};
 ghost use Rattle.desk.specs.Command.{Begin, Deposit};
 ghost use Rattle.desk.specs.Fault.{IsOfDeposit};
-ghost use Rattle.desk.specs.NewDeposit.{known_in, IsRejectedLate, IsUnused, KeepsBy, SignsAndKeeps, StepsWhere};
+ghost use Rattle.desk.specs.Effects.{in_deposit};
+ghost use Rattle.desk.specs.NewDeposit.{known_in, IsRejectedLate, IsUnused};
 ghost use Rattle.desk.specs.Outcome.{Outcome, faults_after};
 ghost use Rattle.desk.specs.Shown.{deposited_as};
 ghost use Rattle.desk.specs.Texts.{gives_certificate, octets_for, request_for};
+ghost use Rattle.desk.specs.Wholes.{Ends, Completes};
 
 use crate::fault::Fault;
 use crate::findings::{Judgement, Planned, Requested, judge};
@@ -167,7 +168,7 @@ fn begin<'p, B: Book + Drop>(
         reading: submission.reading,
         request,
     };
-    match judge(store, policy, requested)? {
+    match judge(store, &[], policy, requested)? {
         Judgement::Fails(rule) => Ok(Begun::Rejected(Rejection::of(rule))),
         Judgement::Allows(planned) => {
             let pending = reserve(store, alloc, settings, account.name.as_str(), planned)?;
@@ -187,10 +188,9 @@ fn seal<B: Book + Drop>(
     requires some { 1 ≤ length signature.now }
     requires few { length signature.now ≤ 4096 }
     ensures honest { B.honest store.new → B.honest store.old }
-    ensures keeps { KeepsBy B.Standing pending.entry
-        (deposit_of pending.entry.serial (account_view submission.entry.account.now).name
-        submission.entry.reference.now submission.entry.bytes.now) (Ok signature.now) (outcome_of result)
-        store.old store.new (told deposited_as result) }
+    ensures ends { Ends B.Standing (in_deposit (account_view submission.entry.account.now).name
+        submission.entry.reference.now submission.entry.bytes.now) pending.entry (Ok signature.now) (outcome_of result)
+        store.old store.new (ended_as deposited_as result) }
 {
     let Pending {
         serial,
@@ -229,11 +229,10 @@ fn sign_and_seal<B: Book + Drop, X: Signer>(
     signer: &mut X,
 ) -> Result<Deposited, StampRefusal>
     ensures honest { B.honest store.new → B.honest store.old }
-    ensures keeps { (signing : Result (List ℕ) SpecFault) × (o : Outcome)
-        × SignsAndKeeps B.Standing (with_signer X.signs X.fault_count signer.old signer.new) pending.entry
-        (deposit_of pending.entry.serial (account_view submission.entry.account.now).name
-        submission.entry.reference.now submission.entry.bytes.now) signing o store.old store.new
-        (told deposited_as result) }
+    ensures completes { (signing : Result (List ℕ) SpecFault) × (o : Outcome)
+        × Completes B.Standing (with_signer X.signs X.fault_count signer.old signer.new)
+        (in_deposit (account_view submission.entry.account.now).name submission.entry.reference.now
+        submission.entry.bytes.now) pending.entry signing o store.old store.new (ended_as deposited_as result) }
 {
     match signer.sign(pending.text()) {
         Ok(signature) => seal(store, alloc, pending, &signature, submission),

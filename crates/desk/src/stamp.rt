@@ -4,13 +4,16 @@ ghost use Rattle.policy.specs.View.{policy_view};
 ghost use Rattle.tsp.specs.Rules.{IsFirstFailing};
 ghost use Rattle.tsp.specs.declared.rule.Rule.{Rule};
 ghost use Rattle.decide.specs.View.{account_asked};
-ghost use Rattle.desk.specs.Answers.{reply_as};
+ghost use Rattle.desk.specs.Answers.{reply_as, ended_as};
 ghost use Rattle.desk.specs.CallContract.{IsBareStep, with_signer};
 ghost use Rattle.desk.specs.Calls.{settings_view};
 ghost use Rattle.desk.specs.Command.{Stamp, Rejected};
+ghost use Rattle.desk.specs.Effects.{for_reply};
 ghost use Rattle.desk.specs.Findings.{HoldsUnasked};
+ghost use Rattle.desk.specs.Wholes.{answer_by};
 
 use crate::batch::Asked;
+use crate::refusal::StampRefusal;
 use crate::reply::{Begun, Reply};
 use crate::settings::Settings;
 use crate::stamp_end::{complete, no_answer};
@@ -18,6 +21,16 @@ use crate::stamp_start::begin_with;
 use book::Book;
 use cms::Signer;
 use std::alloc::Global;
+
+/// The reply of a stamp that was reserved: rule 12 where it stays void.
+fn reply_or_no_answer(completed: Result<Reply, StampRefusal>) -> Reply
+    ensures { reply_as result ≡ answer_by for_reply.refuses (ended_as reply_as completed) }
+{
+    match completed {
+        Ok(reply) => reply,
+        Err(_) => no_answer(),
+    }
+}
 
 /// Answers a request: the granted reply, the rejection by the first rule that fails, or the rejection by rule 12.
 pub(crate) fn answer_with<B: Book + Drop, G: Signer>(
@@ -37,7 +50,7 @@ pub(crate) fn answer_with<B: Book + Drop, G: Signer>(
         (reply_as result) }
 {
     match begin_with(store, alloc, settings, asked) {
-        Ok(Begun::Pending(pending)) => complete(store, alloc, pending, signer),
+        Ok(Begun::Pending(pending)) => reply_or_no_answer(complete(store, alloc, pending, signer)),
         Ok(Begun::Rejected(rejection)) => Reply::Rejected(rejection),
         Err(_) => no_answer(),
     }

@@ -1,13 +1,14 @@
 //! A stamp from its reservation on.
-ghost use Rattle.std.specs.Prelude.{◌≡◌, ◌≤◌, List, ℕ, Result, length, IfErr};
+ghost use Rattle.std.specs.Prelude.{◌≡◌, ◌≤◌, List, ℕ, Ok, Result, length, IfErr};
 ghost use Rattle.cms.specs.declared.signer.SignerFault.{SignerFault as SpecFault};
-ghost use Rattle.desk.specs.Answers.{reply_as, told};
+ghost use Rattle.desk.specs.Answers.{reply_as, ended_as};
 ghost use Rattle.desk.specs.Calls.{outcome_of};
 ghost use Rattle.tsp.specs.declared.rule.Rule.TheVariants.{System};
-ghost use Rattle.desk.specs.CallContract.{StepsBy, no_signer, with_signer};
-ghost use Rattle.desk.specs.Command.{Setting, Finish, Rejected};
+ghost use Rattle.desk.specs.CallContract.{with_signer};
+ghost use Rattle.desk.specs.Command.{Rejected};
+ghost use Rattle.desk.specs.Effects.{in_seal};
 ghost use Rattle.desk.specs.Outcome.{Outcome};
-ghost use Rattle.desk.specs.Wholes.{IsOfFinish, Completes};
+ghost use Rattle.desk.specs.Wholes.{IsOfFinish, Ends, Completes};
 
 use crate::pending::Pending;
 use crate::refusal::StampRefusal;
@@ -35,8 +36,8 @@ pub(crate) fn finish_with<B: Book + Drop>(
     requires few { length signature.now ≤ 4096 }
     ensures honest { B.honest store.new → B.honest store.old }
     ensures refusals { IfErr result IsOfFinish }
-    ensures step { (s : Setting) → StepsBy B.Standing no_signer s (Finish pending.entry signature.now)
-        (outcome_of result) store.old store.new (told reply_as result) }
+    ensures ends { Ends B.Standing in_seal pending.entry (Ok signature.now) (outcome_of result) store.old store.new
+        (ended_as reply_as result) }
 {
     let Pending {
         serial,
@@ -56,27 +57,24 @@ pub(crate) fn finish_with<B: Book + Drop>(
     Ok(Reply::Granted { serial, bytes })
 }
 
-/// Has the text of a reservation signed, and stores the token. The rejection by rule 12 where the signer, memory or the
-/// store refuses: the reservation stays void.
+/// Has the text of a reservation signed, and stores the token. Where the signer, memory or the store refuses, the
+/// reservation stays void.
 pub(crate) fn complete<B: Book + Drop, X: Signer>(
     store: &mut B,
     alloc: Global,
     pending: Pending<'_>,
     signer: &mut X,
-) -> Reply
+) -> Result<Reply, StampRefusal>
     ensures honest { B.honest store.new → B.honest store.old }
-    ensures completes { (s : Setting) → (signing : Result (List ℕ) SpecFault) × (o : Outcome)
-        × Completes B.Standing (with_signer X.signs X.fault_count signer.old signer.new) pending.entry signing o
-        store.old store.new (reply_as result) }
+    ensures completes { (signing : Result (List ℕ) SpecFault) × (o : Outcome)
+        × Completes B.Standing (with_signer X.signs X.fault_count signer.old signer.new) in_seal pending.entry signing o
+        store.old store.new (ended_as reply_as result) }
 {
     match signer.sign(pending.text()) {
-        Ok(signature) => match finish_with(store, alloc, pending, &signature) {
-            Ok(reply) => reply,
-            Err(_) => no_answer(),
-        },
-        Err(_) => {
+        Ok(signature) => finish_with(store, alloc, pending, &signature),
+        Err(fault) => {
             pending.abandon();
-            no_answer()
+            Err(StampRefusal::Signing(fault))
         }
     }
 }

@@ -50,7 +50,7 @@ pub(crate) fn begin_with<'p, B: Book + Drop>(
     ensures refusals { IfErr result IsOfBeginning }
 {
     let policy = settings.policy;
-    match find(store, policy, asked)? {
+    match find(store, &[], policy, asked)? {
         Judgement::Fails(rule) => Ok(Begun::Rejected(Rejection::of(rule))),
         Judgement::Allows(planned) => {
             let next = NextStamp {

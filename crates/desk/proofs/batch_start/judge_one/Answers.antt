@@ -8,7 +8,7 @@ returns-in-Ok-Fails g c =
     let found = c.in-Ok-Fails.ensures in
     record {
       judges = judged_failing g.B.Standing (settings_view c.args.settings) (question_view c.args.asked)
-          c.args.waits.now c.in-Ok-Fails.rule c.args.store.now c.find_among.new.store found.looks found.counted
+          c.args.waits.now c.in-Ok-Fails.rule c.args.store.now c.find.new.store found.looks found.counted
           (rw c.in-Ok-Fails.field-0-is at found.finds)
           (λ other first. ((rw c.in-Ok-Fails.field-0-is at found.unasked) other first).0);
     }
@@ -19,7 +19,7 @@ returns-in-Ok-Allows g c =
     let planned = c.in-Ok-Allows.planned in
     record {
       judges = judged_allowed g.B.Standing (settings_view c.args.settings) (question_view c.args.asked)
-          c.args.waits.now (plan_of planned) planned.last c.await_one.result c.args.store.now c.find_among.new.store
+          c.args.waits.now (plan_of planned) planned.last c.await_one.result c.args.store.now c.find.new.store
           c.await_one.ensures.awaits found.looks found.counted (rw c.in-Ok-Allows.field-0-is at found.finds)
           (rw c.in-Ok-Allows.field-0-is at found.last)
           (λ other first. ((rw c.in-Ok-Allows.field-0-is at found.unasked) other first).0);
@@ -30,6 +30,6 @@ returns-in-Err g c =
     let found = c.in-Err.ensures in
     record {
       judges = judged_unanswered g.B.Standing (settings_view c.args.settings) (question_view c.args.asked)
-          c.args.waits.now c.in-Err.field-0 c.args.store.now c.find_among.new.store found.refusals found.somebody
+          c.args.waits.now c.in-Err.field-0 c.args.store.now c.find.new.store found.refusals found.somebody
           found.looks found.counted found.finds (λ other first. (found.unasked other first).0);
     }

@@ -11,7 +11,7 @@ returns-in-Ok-Fails g c =
       judges = λ reserving refusal. judged_failing g.B.Standing (settings_view c.args.settings)
           (question_view c.args.asked) [] c.in-Ok-Fails.rule c.args.store.now c.find.new.store found.looks
           found.counted
-          (λ honest b stands sound. (rw c.in-Ok-Fails.field-0-is at found.finds) honest b stands)
+          (rw c.in-Ok-Fails.field-0-is at found.finds)
           (λ other first. ((rw c.in-Ok-Fails.field-0-is at found.unasked) other first).0);
     }
 
@@ -31,6 +31,6 @@ returns-in-Err g c =
     record {
       judges = λ reserving refusal. judged_unanswered g.B.Standing (settings_view c.args.settings)
           (question_view c.args.asked) [] c.in-Err.field-0 c.args.store.now c.find.new.store found.refusals
-          found.somebody found.looks found.counted (λ honest b stands sound. found.finds honest b stands)
+          found.somebody found.looks found.counted found.finds
           (λ other first. (found.unasked other first).0);
     }

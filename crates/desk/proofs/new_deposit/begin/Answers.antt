@@ -36,7 +36,8 @@ returns-in_err-rule-clause-step g c =
     c.digest-digest.ensures c.gives_certificate.ensures)
     (leaves_open g.B.Standing s (Some a) c.args.submission.reading (octets_of r) c.args.store.now c.judge.new.store
     refusal found.refusals found.somebody found.looks found.counted
-    (λ honest b st. rw (to_z-of_z reading) at (found.finds honest b st (octets_of r) made.spelled made.short))))
+    (λ honest b st sound. rw (to_z-of_z reading)
+    at (found.finds honest b st sound (octets_of r) made.spelled made.short))))
 
 pub returns-in-Fails-clause-step : goal.returns-in-Fails-clause-step
 returns-in-Fails-clause-step g c =
@@ -52,8 +53,8 @@ returns-in-Fails-clause-step g c =
     c.digest-digest.ensures c.gives_certificate.ensures)
     (rw c.of.ensures (rejects g.B.Standing s (Some a) c.args.submission.reading (octets_of r) (all_fine (Ok []))
     c.args.store.now c.judge.new.store c.in-Fails.rule (refl, (tt, tt)) found.looks found.counted
-    (λ honest b st. rw (c.in-Fails.is, to_z-of_z reading)
-    at (found.finds honest b st (octets_of r) made.spelled made.short))))
+    (λ honest b st sound. rw (c.in-Fails.is, to_z-of_z reading)
+    at (found.finds honest b st sound (octets_of r) made.spelled made.short))))
 
 pub returns-in_ok-pending-in-Allows-clause-step : goal.returns-in_ok-pending-in-Allows-clause-step
 returns-in_ok-pending-in-Allows-clause-step g c =
@@ -73,8 +74,8 @@ returns-in_ok-pending-in-Allows-clause-step g c =
     (reserves_after g.B.Standing s (Some a) c.args.submission.reading (octets_of r) c.args.store.now c.judge.new.store
     c.reserve.new.store plan c.in-Allows.planned.last c.as_str.result.now (Ok reserved.pending)
     c.as_str.ensures.value tt found.looks found.counted
-    (λ honest b st. rw (c.in-Allows.is, to_z-of_z reading)
-    at (found.finds honest b st (octets_of r) made.spelled made.short))
+    (λ honest b st sound. rw (c.in-Allows.is, to_z-of_z reading)
+    at (found.finds honest b st sound (octets_of r) made.spelled made.short))
     (rw c.in-Allows.is at found.last)
     (record {
       honest = reserved.ensures.honest;
@@ -106,8 +107,8 @@ returns-in_err-pending-in-Allows-clause-step g c =
     (reserves_after g.B.Standing s (Some a) c.args.submission.reading (octets_of r) c.args.store.now c.judge.new.store
     c.reserve.new.store plan c.in-Allows.planned.last c.as_str.result.now (Err refusal)
     c.as_str.ensures.value unreserved.refusals found.looks found.counted
-    (λ honest b st. rw (c.in-Allows.is, to_z-of_z reading)
-    at (found.finds honest b st (octets_of r) made.spelled made.short))
+    (λ honest b st sound. rw (c.in-Allows.is, to_z-of_z reading)
+    at (found.finds honest b st sound (octets_of r) made.spelled made.short))
     (rw c.in-Allows.is at found.last)
     (record {
       honest = unreserved.honest;

@@ -5,6 +5,7 @@ use Rattle.desk.specs.Command.{Finish, Refused}
 use Rattle.desk.specs.Effects.{fault_of}
 use Rattle.desk.specs.Outcome.{all_fine}
 use Rattle.desk.specs.CallContract.{no_signer}
+use Rattle.desk.proofs.Endings.{finishes, finish_refused}
 use Rattle.desk.proofs.Opened.{steps_opened, refused_as}
 use Rattle.desk.proofs.desk.Desk.finish.Goals as goal
 
@@ -15,7 +16,8 @@ returns-clause-step g c =
     steps_opened g.B.Standing c.steps_keep_their_promises.ensures no_signer
     (record { setting = settings_view c.self.inside.settings; store = c.self.inside.store }) c.args.self.now
     command command (all_fine (Ok [])) c.finish_with.new.store says says (λ s a. refl) c.self.view_is refl refl
-    (c.in_ok-finish_with.ensures.step (settings_view c.self.inside.settings))
+    (finishes g.B.Standing (settings_view c.self.inside.settings) c.args.pending c.args.signature.now
+    c.self.inside.store c.finish_with.new.store c.in_ok-finish_with.field-0 c.in_ok-finish_with.ensures.ends)
 
 pub returns-in_err-finish_with-clause-step : goal.returns-in_err-finish_with-clause-step
 returns-in_err-finish_with-clause-step g c =
@@ -27,4 +29,6 @@ returns-in_err-finish_with-clause-step g c =
     command command (refused r) c.finish_with.new.store (Refused fault) (answered reply_as c.from_residual.result)
     (λ s a. refl) c.self.view_is refl
     (refused_as reply_as c.from_residual.result fault c.from_residual.ensures.1)
-    (c.in_err-finish_with.ensures.step (settings_view c.self.inside.settings))
+    (finish_refused g.B.Standing (settings_view c.self.inside.settings) c.args.pending c.args.signature.now
+    c.self.inside.store c.finish_with.new.store r c.in_err-finish_with.ensures.refusals
+    c.in_err-finish_with.ensures.ends)

@@ -6,7 +6,7 @@ use Rattle.decide.specs.View.{account_asked}
 use Rattle.desk.specs.Facts.{facts_of}
 use Rattle.desk.specs.WaitingStamps.{with_waiting}
 use Rattle.desk.proofs.Judgement.{unread, unspelled, one_unasked}
-use Rattle.desk.proofs.findings.find_among.Goals as goal
+use Rattle.desk.proofs.findings.find.Goals as goal
 
 pub returns-in_default-clause-finds : goal.returns-in_default-clause-finds
 returns-in_default-clause-finds g c honest d st sound =
