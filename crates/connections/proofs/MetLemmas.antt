@@ -11,9 +11,9 @@ use Rattle.service.specs.Checks.{◌>>=◌, check, account_shown, active_account
 use Rattle.service.specs.Forms.{calibration_stated, hold_stated, most_uncertainty, fields_counted, field_stated}
 use Rattle.service.specs.Heads.{HeadValue, head_value}
 use Rattle.service.specs.Numbers.{micros_in, signed_in}
-use Rattle.service.specs.Requests.{Asked, Step, Look, Extract, Status, IsRequest, headless, cut_head, refused_head}
-use Rattle.service.specs.Requests.{cut_body, whole, asked_by, calibration_asked, hold_asked, account_and_reference}
-use Rattle.service.specs.Requests.{account_and_number, account_and_range}
+use Rattle.service.specs.Requests.{Asked, Step, Look, Extract, Status, OfAccount, OfReaders, IsRequest, headless}
+use Rattle.service.specs.Requests.{cut_head, refused_head, cut_body, whole, asked_by, calibration_asked, hold_asked}
+use Rattle.service.specs.Requests.{account_and_reference, account_and_number, account_and_range}
 use Rattle.service.specs.Routes.{parameter}
 use Rattle.service.specs.declared.refusal.Refusal.{Refusal}
 use Rattle.service.specs.declared.refusal.Refusal.TheVariants as refusal
@@ -124,6 +124,10 @@ asked_met file reading h body action.Hold b =
     (λ x lasting. lasting)
 asked_met file reading h body action.Status b =
     met_after b (watcher_shown file h) (λ account. Ok (Look Status)) (λ account. tt)
+asked_met file reading h body action.Account b =
+    met_after b (active_account file h) (λ account. Ok (Look (OfAccount account))) (λ account. tt)
+asked_met file reading h body action.Readers b =
+    met_after b (account_and_number file h) (λ p. Ok (Look (OfReaders p.0 p.1))) (λ p. tt)
 
 -- of a result that is another one's
 met_as : (b : History) (c : Command) (asked : Result Asked Refusal) → Ok (Step c) ≡ asked → IsMetBy b asked → IsMet c b

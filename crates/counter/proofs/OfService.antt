@@ -4,9 +4,10 @@ use Rattle.book.specs.declared.standing.Standing.{Ghosts}
 use Rattle.cms.specs.declared.signer.SignerFault.{SignerFault}
 use Rattle.desk.specs.Command.{Command, Stamp, Answer}
 use Rattle.service.specs.Answers.{AnswerValue}
-use Rattle.service.specs.Requests.{Extract, Status}
+use Rattle.service.specs.Reports.{tells_text, wants_text, owned, hidden, unknown}
+use Rattle.service.specs.Requests.{Extract, Status, OfAccount, OfReaders}
 use Rattle.service.specs.Served.{Turn, Takes, IsAnswer, refuses, replies, turns_back, looks, wants_early, wants_list}
-use Rattle.service.specs.Served.{tells_status, wants_status, Extracts, Serves}
+use Rattle.service.specs.Served.{Extracts, Serves}
 use Rattle.service.specs.declared.served.Served.{Served}
 use Rattle.service.specs.declared.served.Served.TheVariants as served
 use Rattle.counter.specs.HttpRequest as known
@@ -23,8 +24,20 @@ module _ {W B X : Type 0} (g : Ghosts B) (signs : X → List ℕ → Result (Lis
   explained a (refuses r reads idle is) = known.refuses r reads is
   explained a (replies c reads reply takes is) = known.replies c reads reply (judged c reply takes) is
   explained a (turns_back x reads takes behind is) = known.turns_back x reads is
-  explained a (looks Status reads look (tells_status body told is)) = known.tells_status body reads is
-  explained a (looks Status reads look (wants_status is)) = known.wants_status reads is
+  explained a (looks Status reads look (tells_text body told is)) = known.tells_report Status body reads tt is
+  explained a (looks Status reads look (wants_text is)) = known.wants_report Status reads tt is
+  explained a (looks (OfAccount account) reads look (tells_text body told is)) =
+      known.tells_report (OfAccount account) body reads (told.used, told.text) is
+  explained a (looks (OfAccount account) reads look (wants_text is)) =
+      known.wants_report (OfAccount account) reads tt is
+  explained a (looks (OfReaders account number) reads look (owned own (tells_text body told is))) =
+      known.tells_report (OfReaders account number) body reads tt is
+  explained a (looks (OfReaders account number) reads look (owned own (wants_text is))) =
+      known.wants_report (OfReaders account number) reads tt is
+  explained a (looks (OfReaders account number) reads look (hidden others is)) =
+      known.hides_readers account number reads is
+  explained a (looks (OfReaders account number) reads look (unknown is)) =
+      known.wants_report (OfReaders account number) reads tt is
   explained a (looks (Extract account from to) reads look kept) =
       known.keeps_back account from to reads kept.fault kept.comes kept.tells
   explained a (wants_early early idle is) = known.wants_early early is

@@ -6,9 +6,11 @@ use Rattle.audit.specs.Auditor.{IsAllowed, ComesWhere}
 use Rattle.audit.specs.declared.fault.ExtractFault.{ExtractFault}
 use Rattle.book.specs.History.{CalibrationValue}
 use Rattle.desk.specs.Command.{Command, Stamp, ListAll, Calibrate, Answer}
+use Rattle.service.specs.Accounts.{account_text}
 use Rattle.service.specs.Answers.{AnswerValue, answer_text, answer_to, refusal_answer, success}
 use Rattle.service.specs.Refusals.{refusal_of_extract}
-use Rattle.service.specs.Requests.{Step, Look, Extract, Status, IsRequest, IsPart, IsEarly}
+use Rattle.service.specs.Requests.{Report, Step, Look, Extract, Status, OfAccount, OfReaders, IsRequest, IsPart}
+use Rattle.service.specs.Requests.{IsEarly}
 use Rattle.service.specs.Served.{Turn, unavailable}
 use Rattle.service.specs.declared.answer.Media.TheVariants as media
 use Rattle.service.specs.declared.answer.Media.TheVariants.{Csv}
@@ -25,6 +27,18 @@ IsJudged file (Stamp account reading octets) answer =
     IsJudgedReply file account octets answer
 IsJudged file other answer = Unit {0}
 
+-- the report is one text; an extract is written row by row
+abbrev pub IsText : Report → Type 0
+IsText (Extract account from to) = ⊥
+IsText other = Unit {0}
+
+-- what of that text is certain
+abbrev pub IsTextOf : PolicyValue → Report → List ℕ → Type 0
+IsTextOf file (Extract account from to) body = ⊥
+IsTextOf file Status body = Unit {0}
+IsTextOf file (OfAccount account) body = (used : Option ℕ) × (body ≡ account_text file account used)
+IsTextOf file (OfReaders account number) body = Unit {0}
+
 -- Why an answer is written: the input is left as `old`, and then as `new`.
 pub data IsAnswerFor (file : PolicyValue) (reading : ℤ) (old new : Option (List ℕ)) (a : AnswerValue) : Type 0 where
   -- the request is refused
@@ -36,8 +50,12 @@ pub data IsAnswerFor (file : PolicyValue) (reading : ℤ) (old new : Option (Lis
   -- the calibration that the request asks for is told to be before the latest
   turns_back : (c : CalibrationValue) → IsRequest file reading old new (Ok (Step (Calibrate c)))
       → a ≡ refusal_answer refusal.Backwards → IsAnswerFor file reading old new a
-  -- the counter's state that the request asks for is told
-  tells_status : (body : List ℕ) → IsRequest file reading old new (Ok (Look Status)) → a ≡ success 200 media.Text body
+  -- the report that the request asks for is told as a text
+  tells_report : (r : Report) (body : List ℕ) → IsRequest file reading old new (Ok (Look r)) → IsTextOf file r body
+      → a ≡ success 200 media.Text body → IsAnswerFor file reading old new a
+  -- the deposit whose readers the request asks for isn't here for the account
+  hides_readers : (account : AccountValue) (number : ℕ)
+      → IsRequest file reading old new (Ok (Look (OfReaders account number))) → a ≡ refusal_answer refusal.NotHere
       → IsAnswerFor file reading old new a
   -- the extract that the request asks for is refused
   keeps_back : (account : AccountValue) (from to : ℕ)
@@ -49,8 +67,8 @@ pub data IsAnswerFor (file : PolicyValue) (reading : ℤ) (old new : Option (Lis
   -- memory is wanting for the lines of a list
   wants_list : (account : AccountValue) → IsRequest file reading old new (Ok (Step (ListAll account)))
       → a ≡ unavailable → IsAnswerFor file reading old new a
-  -- the store can't be looked into, or memory is wanting for the state
-  wants_status : IsRequest file reading old new (Ok (Look Status)) → a ≡ unavailable
+  -- the store can't be looked into, or memory is wanting for a report's text
+  wants_report : (r : Report) → IsRequest file reading old new (Ok (Look r)) → IsText r → a ≡ unavailable
       → IsAnswerFor file reading old new a
 
 -- an answer of that status is there, and this much of its text is written

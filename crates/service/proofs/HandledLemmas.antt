@@ -17,9 +17,9 @@ use Rattle.service.specs.Answers.{AnswerValue, line_feed, refusal_answer, succes
 use Rattle.service.specs.Checks.{◌>>=◌}
 use Rattle.service.specs.ExtractAnswers.{ServesExtract}
 use Rattle.service.specs.Handlers.{Handles, RequestValue}
+use Rattle.service.specs.Reports.{tells_text, wants_text}
 use Rattle.service.specs.Requests.{Asked, Report, Step, Look, Extract, Status, IsRequest, asked_by}
-use Rattle.service.specs.Served.{Reports, Sends, Steps, Tells, plainly, tells_status, unavailable, wants_list}
-use Rattle.service.specs.Served.{wants_status}
+use Rattle.service.specs.Served.{Reports, Sends, Steps, Tells, plainly, unavailable, wants_list}
 use Rattle.service.specs.StateAnswers.{ServesStatus}
 use Rattle.service.specs.Views.{done_answer, stamp_answer, status_kept}
 use Rattle.service.specs.declared.answer.Media.TheVariants as media
@@ -86,11 +86,11 @@ module _ {W B X : Type 0} (g : Ghosts B) (signs : X → List ℕ → Result (Lis
       elim tells.sent [
         | inl sent ↦
             reported Status (success 200 media.Text tells.body) asks looks signer
-            (tells_status tells.body
+            (tells_text tells.body
             (λ honest b stands. record { octets = octets; is = tells.is honest b stands }) refl) sent
-        | inr sent ↦ reported Status unavailable asks looks signer (wants_status refl) sent
+        | inr sent ↦ reported Status unavailable asks looks signer (wants_text refl) sent
       ]
-  status_told asks looks signer octets (inr sent) = reported Status unavailable asks looks signer (wants_status refl) sent
+  status_told asks looks signer octets (inr sent) = reported Status unavailable asks looks signer (wants_text refl) sent
 
 -- the check that comes first fails, or gives what comes next
 pub checks : {A B : Type 0} (next : A → Result B Refusal) (m n : Result A Refusal) → n ≡ m → (m >>= next) ≡ (n >>= next)

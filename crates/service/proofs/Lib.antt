@@ -1,8 +1,11 @@
+pub mod AccountLemmas
 pub mod ExtractLemmas
 pub mod HandledLemmas
 pub mod Joined
 pub mod KnownLemmas
 pub mod Operators
+pub mod ReaderLemmas
+pub mod ReadersTold
 pub mod RequestLemmas
 pub mod Rows
 pub mod ServingLemmas

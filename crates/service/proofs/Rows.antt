@@ -51,9 +51,17 @@ at_tsp : methods_at (codes "/tsp") ≡ Some (record nothing { post = Some action
 unfolding routes matchit_on_literals
 at_tsp = refl
 
+at_account : methods_at (codes "/account") ≡ Some (record nothing { get = Some action.Account })
+unfolding routes matchit_on_literals
+at_account = refl
+
 at_query : methods_at (codes "/tsp?x=1") ≡ None
 unfolding routes matchit_on_literals
 at_query = refl
+
+at_readers : methods_at (codes "/deposits/1/readers") ≡ Some (record nothing { get = Some action.Readers })
+unfolding routes matchit_on_literals
+at_readers = refl
 
 at_reader : methods_at (codes "/deposits/1/readers/bob")
     ≡ Some (record nothing { put = Some action.Grant; delete = Some action.Revoke })

@@ -1,7 +1,6 @@
 -- What is written, and why.
-use Rattle.std.proofs.Common.{◌≡◌, ◌∙◌, ℕ, ℤ, true, List, [], Option, Result, Ok, Err, length, take}
-use Rattle.std.proofs.Common.{ap, append-nil, arith, refl, inl, inr, subst, sym}
-use Rattle.std.proofs.KnownBytes.{Consumes-trans}
+use Rattle.std.proofs.Common.{◌≡◌, ◌∙◌, ℕ, ℤ, true, List, Option, Result, Ok, Err, length, take}
+use Rattle.std.proofs.Common.{ap, arith, refl, inl, inr, subst, sym}
 use Rattle.std.proofs.lemmas.List.{take_all}
 use Rattle.std.specs.Io.KnownBytes.{Consumes, IsAtEnd}
 use Rattle.book.specs.declared.standing.Standing.{Ghosts}

@@ -63,6 +63,10 @@ only_stamp file reading h body action.Hold q is other =
     bound (hold_asked file h body) _ (Step (stamp_for q)) (λ a same. cc) is
 only_stamp file reading h body action.Status q is other =
     bound (watcher_shown file h) _ (Step (stamp_for q)) (λ a same. cc) is
+only_stamp file reading h body action.Account q is other =
+    bound (active_account file h) _ (Step (stamp_for q)) (λ a same. cc) is
+only_stamp file reading h body action.Readers q is other =
+    bound (account_and_number file h) _ (Step (stamp_for q)) (λ a same. cc) is
 
 -- octets are a head and its body, which ask for a stamp
 pub record IsStampRequest (file : PolicyValue) (reading : ℤ) (octets : List ℕ) (q : Question) : Type 0 where
@@ -189,6 +193,8 @@ stamp_is action.Extract is = cc
 stamp_is action.Calibrate is = cc
 stamp_is action.Hold is = cc
 stamp_is action.Status is = cc
+stamp_is action.Account is = cc
+stamp_is action.Readers is = cc
 
 module _ (file : PolicyValue) (reading : ℤ) (r : ReceivedValue) (a : Action) (head : Head) (body : Bor (List ℕ))
     (is : IsDue r (due.Answer a head body)) where

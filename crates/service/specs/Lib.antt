@@ -1,3 +1,4 @@
+pub mod Accounts
 pub mod Answers
 pub mod Checks
 pub mod ExtractAnswers
@@ -7,8 +8,10 @@ pub mod Handlers
 pub mod Heads
 pub mod Known
 pub mod Numbers
+pub mod Readers
 pub mod Received
 pub mod Refusals
+pub mod Reports
 pub mod Requests
 pub mod Routes
 pub mod Served

@@ -18,10 +18,13 @@ use Rattle.service.specs.declared.routes.Action.{Action}
 use Rattle.service.specs.declared.routes.Action.TheVariants as action
 
 -- What is told out of the desk's store: to an account, an extract of the stamps with serial numbers from the first
--- number on and up to the second; or the counter's state.
+-- number on and up to the second; the counter's state; to an account, what it may ask for and has used, and who reads
+-- the deposit with a number.
 pub data Report : Type 0 where
   Extract : AccountValue → ℕ → ℕ → Report
   Status : Report
+  OfAccount : AccountValue → Report
+  OfReaders : AccountValue → ℕ → Report
 
 -- What is asked for: that the desk takes a command's step, or a report.
 pub data Asked : Type 0 where
@@ -102,6 +105,12 @@ asked_by file reading h body action.Hold = do
 asked_by file reading h body action.Status = do
   account ← watcher_shown file h
   Ok (Look Status)
+asked_by file reading h body action.Account = do
+  account ← active_account file h
+  Ok (Look (OfAccount account))
+asked_by file reading h body action.Readers = do
+  (account, number) ← account_and_number file h
+  Ok (Look (OfReaders account number))
 
 -- What was read, from what a reader had left to what it has left then, and no octet behind it:
 pub data IsRequest (file : PolicyValue) (reading : ℤ) (old new : Option (List ℕ)) (asked : Result Asked Refusal)

@@ -28,9 +28,11 @@ table =
     ∷ (codes "/calibrations", record nothing { post = Some action.Calibrate })
     ∷ (codes "/holds", record nothing { post = Some action.Hold })
     ∷ (codes "/status", record nothing { get = Some action.Status })
+    ∷ (codes "/account", record nothing { get = Some action.Account })
     ∷ (codes "/deposits", record nothing { get = Some action.List; post = Some action.Keep })
     ∷ (codes "/deposits/{number}", record nothing { get = Some action.Show })
     ∷ (codes "/deposits/{number}/token", record nothing { get = Some action.Token })
+    ∷ (codes "/deposits/{number}/readers", record nothing { get = Some action.Readers })
     ∷ (
       codes "/deposits/{number}/readers/{name}",
       record nothing { put = Some action.Grant; delete = Some action.Revoke },

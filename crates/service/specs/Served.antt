@@ -21,7 +21,9 @@ use Rattle.audit.specs.declared.fault.ExtractFault.{ExtractFault}
 use Rattle.audit.specs.declared.fault.ExtractFault.TheVariants.{Write}
 use Rattle.service.specs.Answers.{AnswerValue, answer_text, answer_to, extract_answer, refusal_answer, success}
 use Rattle.service.specs.Refusals.{refusal_of_extract, status_of}
-use Rattle.service.specs.Requests.{Asked, Report, Step, Look, Extract, Status, IsRequest, IsPart, IsEarly}
+use Rattle.service.specs.Reports.{ReportsText, IsAccountText, ReportsReaders}
+use Rattle.service.specs.Requests.{Asked, Report, Step, Look, Extract, Status, OfAccount, OfReaders, IsRequest, IsPart}
+use Rattle.service.specs.Requests.{IsEarly}
 use Rattle.service.specs.Status.{IsStatusText}
 use Rattle.service.specs.declared.answer.Media.TheVariants as media
 use Rattle.service.specs.declared.refusal.Refusal.{Refusal}
@@ -145,19 +147,13 @@ module _ {B X : Type 0} (g : Ghosts B) (signs : X → List ℕ → Result (List 
     pub written : fault ≢ Write
     pub tells : a ≡ refusal_answer (refusal_of_extract fault)
 
-  -- the answer on the counter's state
-  pub data ReportsStatus (reading : ℤ) (old new : DeskValue B) (signer : X) (a : AnswerValue) : Type 0 where
-    -- it is that of each history that the store stood for
-    tells_status : (body : List ℕ) → IsStatus reading old new signer body → a ≡ success 200 media.Text body
-        → ReportsStatus reading old new signer a
-    -- the store can't be looked into, or memory is wanting
-    wants_status : a ≡ unavailable → ReportsStatus reading old new signer a
-
   -- The answer with a report, at the reading: the desk was `old` before the look and is `new` after it. An extract that
   -- is written row by row stands below (`Extracts`).
   abbrev pub Reports : ℤ → DeskValue B → DeskValue B → X → Report → AnswerValue → Type 0
   Reports reading old new signer (Extract account from to) a = ReportsNoExtract old new account from to a
-  Reports reading old new signer Status a = ReportsStatus reading old new signer a
+  Reports reading old new signer Status a = ReportsText (IsStatus reading old new signer) a
+  Reports reading old new signer (OfAccount account) a = ReportsText (IsAccountText g old new account reading) a
+  Reports reading old new signer (OfReaders account number) a = ReportsReaders g old new account number a
 
   -- why an answer is written
   pub data IsAnswer {W : Type 0} (reading : ℤ) (t : Turn W B X) (a : AnswerValue) : Type 0 where

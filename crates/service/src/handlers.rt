@@ -4,6 +4,7 @@ ghost use Rattle.std.specs.Prelude.{◌≡◌};
 ghost use Rattle.service.specs.Handlers.{Handles};
 ghost use Rattle.service.specs.Views.{request_view, IsInPlace};
 
+mod account;
 mod calibrations;
 mod deposit;
 mod deposits;
@@ -51,5 +52,7 @@ pub(crate) fn handle<W: Write, B: Book + Drop, G: Signer>(
         Action::Calibrate => calibrations::calibrate(context, desk, signer, writer),
         Action::Hold => holds::hold(context, desk, signer, writer),
         Action::Status => status::tell_status(context, desk, signer, writer),
+        Action::Account => account::tell_account(context, desk, signer, writer),
+        Action::Readers => readers::tell_readers(context, desk, signer, writer),
     }
 }

@@ -1,6 +1,7 @@
 //! The counter over HTTP (RFC 9110, RFC 9112; RFC 3161 3.4): one request and its answer, over any reader and writer.
 #![tactic(auto)]
 
+mod account;
 mod answer;
 mod checks;
 mod context;
@@ -12,8 +13,10 @@ mod form;
 mod handlers;
 mod head;
 mod known;
+mod laws;
 mod lists;
 mod numbers;
+mod readers;
 mod refusal;
 mod request;
 mod responses;
@@ -27,6 +30,7 @@ pub use answer::Media;
 pub use context::{Environment, Surroundings};
 pub use exchange::{Exchanged, serve_one, serve_over};
 pub use known::MOST_OCTETS;
+pub use laws::accounts_are_told_alike;
 pub use refusal::Refusal;
 pub use request::Request;
 pub use routes::{Methods, Routes};

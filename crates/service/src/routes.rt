@@ -35,6 +35,10 @@ pub(crate) enum Action {
     Hold,
     /// Tells an operator or an auditor of the counter's state.
     Status,
+    /// Tells an account of itself.
+    Account,
+    /// Tells the owner of a deposit who may read it.
+    Readers,
 }
 
 /// What each method does at a target, if anything.
@@ -67,9 +71,11 @@ static ROUTES: &[(&str, Methods)] = &[
     ("/calibrations", on!(post Calibrate)),
     ("/holds", on!(post Hold)),
     ("/status", on!(get Status)),
+    ("/account", on!(get Account)),
     ("/deposits", on!(get List, post Keep)),
     ("/deposits/{number}", on!(get Show)),
     ("/deposits/{number}/token", on!(get Token)),
+    ("/deposits/{number}/readers", on!(get Readers)),
     (
         "/deposits/{number}/readers/{name}",
         on!(put Grant, delete Revoke),

@@ -134,14 +134,14 @@ fn moment_text(alloc: Global, moment: Option<GenTime>) -> Option<Vec<u8>>
 }
 
 /// Whether it is so.
-fn yes_or_no(answer: bool) -> &'static str
+pub(crate) fn yes_or_no(answer: bool) -> &'static str
     ensures { result.now ≡ yes_or_no answer }
 {
     if answer { "yes" } else { "no" }
 }
 
 /// Appends a line with a name and a value. None where memory runs out.
-fn append_named(lines: &mut Vec<u8>, name: &str, value: &[u8]) -> Option<()>
+pub(crate) fn append_named(lines: &mut Vec<u8>, name: &str, value: &[u8]) -> Option<()>
     ensures { OnSome result (lines.new.items ≡ lines.old.items ++ named name.now value.now) }
 {
     lines.extend_from_slice(name.as_bytes()).ok()?;
@@ -151,7 +151,12 @@ fn append_named(lines: &mut Vec<u8>, name: &str, value: &[u8]) -> Option<()>
 }
 
 /// Appends a line with a number, or with the word that there is none.
-fn append_number(alloc: Global, lines: &mut Vec<u8>, name: &str, number: Option<u64>) -> Option<()>
+pub(crate) fn append_number(
+    alloc: Global,
+    lines: &mut Vec<u8>,
+    name: &str,
+    number: Option<u64>,
+) -> Option<()>
     ensures { OnSome result (lines.new.items ≡ lines.old.items ++ named name.now (or_none decimal number)) }
 {
     let text = number_text(alloc, number).ok()?;

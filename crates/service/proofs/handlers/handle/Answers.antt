@@ -38,3 +38,9 @@ returns-in-Hold-clause-served g c = rw c.in-Hold.is c.hold.ensures.served
 
 pub returns-in-Status-clause-served : goal.returns-in-Status-clause-served
 returns-in-Status-clause-served g c = rw c.in-Status.is c.tell_status.ensures.served
+
+pub returns-in-Account-clause-served : goal.returns-in-Account-clause-served
+returns-in-Account-clause-served g c = rw c.in-Account.is c.tell_account.ensures.served
+
+pub returns-in-Readers-clause-served : goal.returns-in-Readers-clause-served
+returns-in-Readers-clause-served g c = rw c.in-Readers.is c.tell_readers.ensures.served

@@ -1,0 +1,24 @@
+use Rattle.std.proofs.Common.{Ok, Err, refl}
+use Rattle.policy.specs.View.{account_view}
+use Rattle.service.specs.Requests.{OfReaders}
+use Rattle.service.specs.Views.{request_view}
+use Rattle.service.specs.declared.routes.Action.TheVariants as action
+use Rattle.service.proofs.HandledLemmas.{refused, reported, checks}
+use Rattle.service.proofs.handlers.readers.tell_readers.Goals as goal
+
+pub returns-in-Err-clause-served : goal.returns-in-Err-clause-served
+returns-in-Err-clause-served g c =
+    refused g.B.Standing g.G.Signer.signs g.G.Signer.fault_count g.W.Write.contents (request_view c.args.context.now) action.Readers
+    c.args.writer.now c.refuse.new.writer c.args.desk.now c.args.desk.now c.args._signer.now c.args._signer.now
+    c.refuse.result c.in-Err.refusal
+    (checks _ _ (Err c.in-Err.refusal) (rw c.policy.ensures at c.in-Err.ensures)) refl refl c.refuse.ensures
+
+pub returns-clause-served : goal.returns-clause-served
+returns-clause-served g c =
+    let account = account_view c.in-Ok.asked.0.now in
+    let served = c.serve_readers.ensures.served in
+    reported g.B.Standing g.G.Signer.signs g.G.Signer.fault_count g.W.Write.contents (request_view c.args.context.now) action.Readers
+    c.args.writer.now c.serve_readers.new.writer c.args.desk.now c.serve_readers.new.desk c.args._signer.now
+    c.args._signer.now c.serve_readers.result (OfReaders account c.in-Ok.asked.1) served.0
+    (checks _ _ (Ok (account, c.in-Ok.asked.1)) (rw c.policy.ensures at c.in-Ok.ensures))
+    c.serve_readers.ensures.looks refl served.1 served.2
