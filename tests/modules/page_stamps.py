@@ -251,10 +251,9 @@ def options(browser, wrong):
 
 
 def by_account(browser, proxy, wrong):
-    """Where the server tells of an account, the page offers that."""
+    """What the server tells of an account, the page offers."""
     status, _, body = proxy.curl("/account", "-H", f"Counter-Key: {ALICE}")
-    if status != 200:
-        return print("browser: the server tells of no account, and the page's options aren't compared with it")
+    wrong.unless("the status of an account", status, 200)
     again(browser)
     key(browser, ALICE)
     policies = [f"{name} ({oid})" for name, oid in re.findall(r"^policy (\S+) (\S+)$", body.decode(), re.M)]
