@@ -96,22 +96,22 @@ def rights(browser, rows, wrong):
     group_rights(browser, rows, wrong)
 
 
-def group_rights(browser, rows, wrong):
+def staff_right(browser, row, change, part, wrong):
+    """Alice gives or takes the right of the group staff."""
     key(browser, ALICE)
     browser.type("#list-search", "plan")
-    opened(browser, rows[1])
-    part = "The members of the group staff may read it now."
-    wrong.unless("a group's right", right(browser, "groups", "staff", "give", part), part)
+    opened(browser, row)
+    wrong.unless(f"a group's right: {change}", right(browser, "groups", "staff", change, part), part)
     browser.key("Escape")
+
+
+def group_rights(browser, rows, wrong):
+    staff_right(browser, rows[1], "give", "The members of the group staff may read it now.", wrong)
     key(browser, BOB)
     browser.wait("document.querySelectorAll('#list tbody tr').length")
     wrong.unless("bob's list by his group", listed(browser), rows[1:])
-    key(browser, ALICE)
-    browser.type("#list-search", "plan")
-    opened(browser, rows[1])
-    part = "The group staff hasn't the right any more. A member's own right stays."
-    wrong.unless("a group's right is taken", right(browser, "groups", "staff", "take", part), part)
-    browser.key("Escape")
+    told = "The group staff hasn't the right any more. A member's own right stays."
+    staff_right(browser, rows[1], "take", told, wrong)
 
 
 def change(browser, who, method, target):
