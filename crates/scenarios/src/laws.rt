@@ -40,7 +40,7 @@ pub fn call_of_store() {
     serials_rise();
     rows_stand_exactly();
     book_stands_in_tables::<MemStore>();
-    openings_find_what_was_left::<MemStore, Memory, Memory>();
+    openings_find_what_was_left::<Memory>();
 }
 
 /// Calls the laws of the desk.

@@ -2,16 +2,22 @@
 use Rattle.std.proofs.Common.{subst}
 use Rattle.sqlite_disk.specs.declared.Disk.{Ghosts}
 use Rattle.sqlite_disk.specs.declared.Files.{Files}
+use Rattle.sqlite_trees.specs.Tree.{Trees}
+use Rattle.sqlite_wal.specs.Recovery.{Image}
 use Rattle.sqlite_store.specs.declared.store.FileStore.{FileStore}
 use Rattle.sqlite_catalog.specs.Listing.{IsSound}
-use Rattle.sqlite.specs.Closing.{IsCopied}
+use Rattle.sqlite.specs.Closing.{HoldsAlone, IsCopied}
 use Rattle.sqlite.specs.Effect.{Database}
 use Rattle.sqlite.specs.Files.{file_state, over_files}
 use Rattle.tables.specs.Base.{BaseValue, IsStored}
 use Rattle.book.specs.History.{History}
-use Rattle.store.specs.Files.{LeavesFiles}
+use Rattle.store.specs.Files.{KeepsAlone, LeavesFiles}
 use Rattle.store.specs.Stands.{Stands}
 use Rattle.store.specs.TablesOf.{tables_of}
+
+alone : (b : History) {db : Trees} {image : Image} → IsStored (tables_of b) db → HoldsAlone image db
+    → KeepsAlone b image
+alone b {db} stored held = ((db, stored, held.both), (db, stored, held.alone))
 
 pub leaves_files : {D : Type 0} {g : Ghosts D} (store : BaseValue (FileStore D g)) (files : Files D) (b : History)
     → IsCopied store.conn files → Stands over_files b store
@@ -22,6 +28,6 @@ leaves_files store files b copied s =
     let holds = subst (λ (d : Database). IsStored (tables_of b) d.trees) kept.settled
     (record { holds = kept.database.holds; listed = listed }) in
     record {
-      seen = ((file_state store.conn).committed.trees, holds, copied.seen);
-      left = λ image may. ((file_state store.conn).committed.trees, holds, copied.left image may);
+      seen = alone b holds copied.seen;
+      left = λ image may. alone b holds (copied.left image may);
     }

@@ -1,10 +1,10 @@
 -- A store's words as a book's, and as those of its tables.
-use Rattle.std.proofs.Common.{◌↔◌, inl, inr}
+use Rattle.std.proofs.Common.{◌↔◌}
 use Rattle.sqlite_trees.specs.declared.store.Store.{Ghosts}
 use Rattle.tables.specs.Base.{BaseValue}
-use Rattle.book.specs.History.{Entry, History}
-use Rattle.book.specs.Stands.{Stands as BookStands, OnlyLooks as BookLooks, LeavesOrAdds as BookAdds}
-use Rattle.store.specs.Stands.{Stands, OnlyLooks, LeavesOrAdds, over_tables}
+use Rattle.book.specs.History.{History}
+use Rattle.book.specs.Stands.{Stands as BookStands, OnlyLooks as BookLooks}
+use Rattle.store.specs.Stands.{Stands, OnlyLooks, over_tables}
 use Rattle.store.proofs.Calls.{stands_for}
 
 book_of : {S : Type 0} (g : Ghosts S) (b : History) (store : BaseValue S) → Stands g b store
@@ -32,17 +32,4 @@ looks_tables g old new = (
     stands = λ b s. book_of g b new (looks.stands b (tables_of_book g b old s));
     leaves = looks.leaves;
   },
-)
-
-pub leaves_tables : {S : Type 0} (g : Ghosts S) (entry : Entry) (old new : BaseValue S)
-    → BookAdds (over_tables g) entry old new ↔ LeavesOrAdds g entry old new
-leaves_tables g entry old new = (
-  λ leaves h db r. elim (leaves h db r) [
-    | inl before ↦ inl before
-    | inr adds ↦ inr (λ b s fits. adds b (book_of g b old s) fits)
-  ],
-  λ leaves h db r. elim (leaves h db r) [
-    | inl before ↦ inl before
-    | inr adds ↦ inr (λ b s fits. adds b (tables_of_book g b old s) fits)
-  ],
 )

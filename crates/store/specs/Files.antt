@@ -17,7 +17,6 @@ use Rattle.store.specs.declared.place.FileState.{FileState}
 use Rattle.store.specs.declared.place.FileState.TheVariants as found
 use Rattle.store.specs.declared.path.Course.{Course}
 use Rattle.store.specs.declared.path.Course.TheVariants as course
-use Rattle.sqlite.specs.Closing.{HoldsAlone}
 use Rattle.sqlite.specs.declared.file.Leftover.{Leftover}
 use Rattle.sqlite.specs.Files.{file_state, over_files, image_of, IsOpened, IsCleanLeft, HoldsDatabase, IsNothing}
 use Rattle.sqlite.specs.Held.{Held, state}
@@ -71,9 +70,13 @@ pub record OpensFound {D : Type 0} {g : Ghosts D} (held : Image) (store : BaseVa
   pub looks : Looks (file_state was) (file_state store.conn)
   pub stands : (b : History) → IsSound b → IsFound (tables_of b) (file_state was) → Stands over_files b store
 
--- the files hold the history's tables, and so does the database file with no log
+-- the files hold the history's tables
+abbrev pub HoldsTables : History → Image → Type 0
+HoldsTables b image = (db : Trees) × IsStored (tables_of b) db × ∥ HoldsDatabase image db ∥₁
+
+-- and so does the database file with no log
 abbrev pub KeepsAlone : History → Image → Type 0
-KeepsAlone b image = (db : Trees) × IsStored (tables_of b) db × HoldsAlone image db
+KeepsAlone b image = HoldsTables b image × HoldsTables b (record image { log = [] })
 
 -- so do a closed store's, as they read now and after any crash
 pub record LeavesFiles {D : Type 0} (g : Ghosts D) (b : History) (files : Files D) : Type 0 where

@@ -1,11 +1,10 @@
 -- Which histories a store stands for, and what its calls leave, said of the tables; and the store as a book.
-use Rattle.std.specs.Prelude.{◌⊎◌, ◌∷◌}
 use Rattle.sqlite_trees.specs.Tree.{Trees}
 use Rattle.sqlite_trees.specs.declared.store.Store.{Ghosts}
 use Rattle.tables.specs.Base.{BaseValue, IsHonest, IsOpen, Keeps, Recovers, IsStored}
 use Rattle.book.specs.declared.standing.Standing.{Ghosts as Standing}
-use Rattle.book.specs.History.{Entry, History}
-use Rattle.book.specs.Sound.{Fits, IsSound}
+use Rattle.book.specs.History.{History}
+use Rattle.book.specs.Sound.{IsSound}
 use Rattle.store.specs.TablesOf.{tables_of}
 
 -- the history is sound, and while the connection is open and its disk returns what was written, the database holds its
@@ -19,12 +18,6 @@ pub record OnlyLooks {S : Type 0} (g : Ghosts S) (old new : BaseValue S) : Type 
   pub honest : IsHonest g new → IsHonest g old
   pub stands : (b : History) → Stands g b old → Stands g b new
   pub leaves : IsHonest g new → (db : Trees) → Recovers g new db → Recovers g old db
-
--- after a crash in the call or at its end: what could be left before, or the tables with the entry
-abbrev pub LeavesOrAdds : {S : Type 0} → Ghosts S → Entry → BaseValue S → BaseValue S → Type 0
-LeavesOrAdds g entry old new =
-    IsHonest g new → (db : Trees) → Recovers g new db
-    → Recovers g old db ⊎ ((b : History) → Stands g b old → Fits entry b → IsStored (tables_of (entry ∷ b)) db)
 
 -- what is known of the store as a book
 abbrev pub over_tables : {S : Type 0} → Ghosts S → Standing (BaseValue S)

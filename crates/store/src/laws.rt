@@ -2,16 +2,15 @@
 ghost use Rattle.std.specs.Prelude.{◌≡◌, ◌≤◌, ◌<◌, ◌↔◌, true, Contains};
 ghost use Rattle.tables.specs.Base.{BaseValue};
 ghost use Rattle.tables.specs.Tables.{ReaderRow, TallyRow};
-ghost use Rattle.book.specs.Stands.{Stands as BookStands, OnlyLooks as BookLooks, LeavesOrAdds as BookAdds};
-ghost use Rattle.book.specs.History.{Entry, History, ReservationValue, Reserved};
+ghost use Rattle.book.specs.Stands.{Stands as BookStands, OnlyLooks as BookLooks};
+ghost use Rattle.book.specs.History.{History, ReservationValue, Reserved};
 ghost use Rattle.book.specs.History.{count_of_day, greatest_serial, reservations};
 ghost use Rattle.book.specs.Readers.{Account, Group};
 ghost use Rattle.book.specs.Rights.{is_reader};
 ghost use Rattle.book.specs.Sound.{Fits, IsSound};
 ghost use Rattle.store.specs.Alike.{HaveSameRows, AreAlike};
-ghost use Rattle.store.specs.Stands.{Stands, OnlyLooks, LeavesOrAdds};
-ghost use Rattle.store.specs.Stops.{FindsTheSame, FindsBeforeOrAfter, FindsNothingOrMade, FindsOldOrMigrated};
-ghost use Rattle.store.specs.Stops.{FindsTheClosed};
+ghost use Rattle.store.specs.Stands.{Stands, OnlyLooks};
+ghost use Rattle.store.specs.Stops.{FindsWhatIsHeld};
 ghost use Rattle.store.specs.TablesOf.{tables_of};
 
 use crate::store::Store;
@@ -48,26 +47,19 @@ pub fn serials_rise()
 {}
 
 /// What is said of a store as of any book is said of the tables in its database, and the other way round: the
-/// histories that it stands for, what a look-up leaves, and what a crash in a change may leave.
+/// histories that it stands for, and what a look-up leaves.
 pub fn book_stands_in_tables<S: Alter + Drop>()
     ensures stands { (b : History) (store : BaseValue S)
         → BookStands ⟦<Store<S> as Standing>⟧ b store ↔ Stands S.Store b store }
     ensures looks { (old new : BaseValue S) → BookLooks ⟦<Store<S> as Standing>⟧ old new ↔ OnlyLooks S.Store old new }
-    ensures leaves { (entry : Entry) (old new : BaseValue S)
-        → BookAdds ⟦<Store<S> as Standing>⟧ entry old new ↔ LeavesOrAdds S.Store entry old new }
 {}
 
-/// What a store leaves, an opening finds. After a stop at a moment when nothing is changed, the store that is opened
-/// stands for the same history; after a stop in a change, for the history before it or for that with the entry; after
-/// one while the tables are made, for the history of the entries that are added in the same commit, if not what was there
-/// before is left; after one in a migration, for the history whose tables are migrated, if not they are left as they
-/// were; and after a closing, for the history that was closed, also if a stop came after it.
-pub fn openings_find_what_was_left<S: Alter + Drop, C: Disk + Drop, D: Disk + Drop>()
-    ensures still { FindsTheSame S.Store D.Disk }
-    ensures changing { FindsBeforeOrAfter S.Store D.Disk }
-    ensures making { FindsNothingOrMade S.Store D.Disk }
-    ensures migrating { FindsOldOrMigrated S.Store D.Disk }
-    ensures closed { FindsTheClosed C.Disk D.Disk }
+/// What the files hold, an opening finds: the store stands for each sound history whose tables they hold, whatever left
+/// these there. A stop between calls leaves those of the history for which the store stood; one in a call of entries
+/// (`crash`), in the making of tables or in a migration may leave those that its clause names; and a closing those of what
+/// was closed.
+pub fn openings_find_what_was_left<D: Disk + Drop>()
+    ensures { FindsWhatIsHeld D.Disk }
 {
     stored_tables_are_found();
 }

@@ -1,4 +1,4 @@
-use Rattle.store.proofs.Tables.{stands_tables, looks_tables, leaves_tables}
+use Rattle.store.proofs.Tables.{stands_tables, looks_tables}
 use Rattle.store.proofs.laws.book_stands_in_tables.Goals as goal
 
 pub returns-clause-stands : goal.returns-clause-stands
@@ -6,6 +6,3 @@ returns-clause-stands g c = stands_tables g.S.Store
 
 pub returns-clause-looks : goal.returns-clause-looks
 returns-clause-looks g c = looks_tables g.S.Store
-
-pub returns-clause-leaves : goal.returns-clause-leaves
-returns-clause-leaves g c = leaves_tables g.S.Store
