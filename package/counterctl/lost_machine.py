@@ -77,10 +77,15 @@ def look_at_present(machine, given, serial):
 
 def number_above(machine, wanted, known):
     """A number that no client can have: each known one, and the quotas of all accounts for each UTC day since, that day
-    and today included, since every number counts towards a quota."""
+    and today included, since every number counts towards a quota; and once more for each new database since, in which
+    quotas began anew."""
     quotas = sum(one["daily_quota"] for one in accounts.accounts(accounts.read(machine)))
     today = int(time.time()) // DAY
-    bounds = [number + quotas * (today - int(moment) // DAY + 1) for number, moment, _ in known]
+    ends = ends_of_periods(machine)
+    bounds = [
+        number + quotas * (today - int(moment) // DAY + 1 + sum(end >= int(moment) for end in ends))
+        for number, moment, _ in known
+    ]
     least, who = max((number, who) for number, _, who in known)
     if wanted is None:
         return max(bounds)
@@ -89,6 +94,13 @@ def number_above(machine, wanted, known):
     if wanted < max(bounds):
         machine.tell(f"above {wanted}: fewer than the quotas would have let be given, {max(bounds)}")
     return min(wanted, MOST - 1)
+
+
+def ends_of_periods(machine):
+    """When the last number was given of each database here whose history went on in another one, in seconds."""
+    names = (name.removesuffix(".db") for name in os.listdir(machine.path(places.DATA)) if name.endswith(".db"))
+    ended = filter(new_period.FORM.fullmatch, names)
+    return [database.serial_in(machine, f"{places.DATA}/{name}.db")[1] for name in ended]
 
 
 def go_on(machine, plan):
