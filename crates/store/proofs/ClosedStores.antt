@@ -1,5 +1,5 @@
 -- What a closed store leaves in its files.
-use Rattle.std.proofs.Common.{subst}
+use Rattle.std.proofs.Common.{◌≡◌, subst, Result, Ok, Err, IfOk}
 use Rattle.sqlite_disk.specs.declared.Disk.{Ghosts}
 use Rattle.sqlite_disk.specs.declared.Files.{Files}
 use Rattle.sqlite_trees.specs.Tree.{Trees}
@@ -9,9 +9,12 @@ use Rattle.sqlite_catalog.specs.Listing.{IsSound}
 use Rattle.sqlite.specs.Closing.{HoldsAlone, IsCopied}
 use Rattle.sqlite.specs.Effect.{Database}
 use Rattle.sqlite.specs.Files.{file_state, over_files}
+use Rattle.sqlite.specs.Held.{Held}
+use Rattle.sqlite_wal.specs.Reads.{AreClean}
 use Rattle.tables.specs.Base.{BaseValue, IsStored}
 use Rattle.book.specs.History.{History}
-use Rattle.store.specs.Files.{KeepsAlone, LeavesFiles}
+use Rattle.book.specs.declared.fault.StoreFault.{StoreFault}
+use Rattle.store.specs.Files.{HasClosed, KeepsAlone, LeavesFiles}
 use Rattle.store.specs.Stands.{Stands}
 use Rattle.store.specs.TablesOf.{tables_of}
 
@@ -31,3 +34,10 @@ leaves_files store files b copied s =
       seen = alone b holds copied.seen;
       left = λ image may. alone b holds (copied.left image may);
     }
+
+pub copied_of : {D : Type 0} {g : Ghosts D} (store : BaseValue (FileStore D g)) (conn : Held (FileStore D g))
+    → conn ≡ store.conn → (done : Result (Files D) StoreFault) → HasClosed conn done
+    → IfOk done (λ files. AreClean g files.log files.db → (b : History) → Stands over_files b store → LeavesFiles g b files)
+copied_of store conn same (Ok files) closed =
+    λ clean b s. leaves_files store files b (subst (λ c. IsCopied c files) same (closed clean)) s
+copied_of store conn same (Err fault) closed = tt

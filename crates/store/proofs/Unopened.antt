@@ -12,7 +12,7 @@ use Rattle.sqlite.specs.declared.error.ErrorCode.TheVariants as code
 use Rattle.sqlite.specs.declared.file.Leftover.{Leftover}
 use Rattle.sqlite.specs.Files.{image_of, IsCleanLeft, FailsToOpenFiles, LeavesFiles, HoldsDatabase, IsNothing}
 use Rattle.sqlite.specs.State.{store_error}
-use Rattle.store.specs.Files.{OpensNothing}
+use Rattle.store.specs.Files.{FailsToOpen, OpensNothing}
 
 no_fault : (cause : StoreError) → ¬ (SqliteFailure code.NotADatabase ≡ store_error cause)
 no_fault OutOfMemory e = cc
@@ -30,30 +30,28 @@ module _ {D : Type 0} (g : Ghosts D) (held : Image) where
   none_held files left (inr (inr (inl fault))) = absurd (no_fault _ fault.0)
   none_held files left (inr (inr (inr limit))) = absurd (let apart = limit.0 in cc)
 
-  pub opens_nothing : (e : Error) (files : Files D) (left : Leftover D g) → image_of g files ≡ held
-      → e ≡ SqliteFailure code.NotADatabase
-      → (IsCleanLeft left → FailsToOpenFiles files left e)
-      → OpensNothing g held
-  opens_nothing e files left same is fails = (
-    left,
-    λ clean.
-        subst (λ i. ¬ (((db : Trees) × HoldsDatabase i db) ⊎ IsNothing i)) same
-        (none_held files left (subst (FailsToOpenFiles files left) is (fails clean))),
-  )
-
   -- by what an opening that failed left of files that held this
-  pub left_nothing : (Log Db : D → Type 0)
+  pub fails_to_open : (Log Db : D → Type 0)
       → ((files : Files D) → Log files.log → Db files.db → image_of g files ≡ held)
-      → (e : Error) → e ≡ SqliteFailure code.NotADatabase → (left : Option (Leftover D g))
+      → (e : Error) → (left : Option (Leftover D g))
       → (left ≡ None → (e ≡ SqliteFailure code.CannotOpen)
       ⊎ ((e ≡ SqliteFailure code.OutOfMemory) ⊎ (e ≡ SqliteFailure code.DatabaseBusy)))
       → IfSome left (λ it. (files : Files D) × Log files.log × Db files.db
       × (IsCleanLeft it → FailsToOpenFiles files it e × LeavesFiles files it))
-      → OpensNothing g held
-  left_nothing Log Db same e is None early cause = elim (early refl) [
+      → FailsToOpen g held e
+  fails_to_open Log Db same e None early cause = (None, early, tt)
+  fails_to_open Log Db same e (Some it) early cause =
+      (Some it, early, (cause.0, same cause.0 cause.1 cause.2, λ clean. (cause.3 clean).0))
+
+  pub opens_nothing : (e : Error) → e ≡ SqliteFailure code.NotADatabase → FailsToOpen g held e → OpensNothing g held
+  opens_nothing e is (None, early, cause) = elim (early refl) [
     | inl cannot ↦ absurd (let apart = sym is ∙ cannot in cc)
     | inr (inl memory) ↦ absurd (let apart = sym is ∙ memory in cc)
     | inr (inr busy) ↦ absurd (let apart = sym is ∙ busy in cc)
   ]
-  left_nothing Log Db same e is (Some it) early cause =
-      opens_nothing e cause.0 it (same cause.0 cause.1 cause.2) is (λ clean. (cause.3 clean).0)
+  opens_nothing e is (Some it, early, (files, same, fails)) = (
+    it,
+    λ clean.
+        subst (λ i. ¬ (((db : Trees) × HoldsDatabase i db) ⊎ IsNothing i)) same
+        (none_held files it (subst (FailsToOpenFiles files it) is (fails clean))),
+  )

@@ -1,16 +1,22 @@
 -- What the store at a path stands for once it is opened, why it isn't, and what it leaves in its files once it is
 -- closed.
 use Rattle.std.specs.Prelude.{◌≡◌, ◌==◌, ◌⊎◌, ℕ, Bool, true, false, if◌then◌else◌, List, [], ◌∷◌, ◌++◌, codes}
-use Rattle.std.specs.Prelude.{IsTrue, Result, Ok, Err}
+use Rattle.std.specs.Prelude.{IsTrue, Option, None, IfSome, Result, Ok, Err}
 use Rattle.sqlite_disk.specs.declared.Disk.{Ghosts}
 use Rattle.sqlite_disk.specs.declared.Files.{Files}
 use Rattle.sqlite_trees.specs.Tree.{Trees}
+use Rattle.sqlite_trees.specs.View.{IsClean}
 use Rattle.sqlite_wal.specs.Files.{outcomes}
 pub use Rattle.sqlite_wal.specs.Files.{image_at}
 use Rattle.sqlite_wal.specs.Recovery.{Image}
 use Rattle.sqlite_store.specs.declared.store.FileStore.{FileStore}
 use Rattle.sqlite_trees.specs.declared.store.Store as store
+use Rattle.sqlite_wal.specs.Reads.{AreClean}
+use Rattle.sqlite_store.specs.FileStore.{view}
 use Rattle.sqlite.specs.declared.error.Error.{Error}
+use Rattle.sqlite.specs.declared.error.Error.TheVariants.{SqliteFailure}
+use Rattle.sqlite.specs.declared.error.ErrorCode.TheVariants as code
+use Rattle.sqlite.specs.Closing.{IsCopied}
 use Rattle.book.specs.declared.fault.StoreFault.{StoreFault}
 use Rattle.book.specs.declared.fault.StoreFault.TheVariants.{Database, NotOurs}
 use Rattle.store.specs.declared.place.FileState.{FileState}
@@ -19,6 +25,7 @@ use Rattle.store.specs.declared.path.Course.{Course}
 use Rattle.store.specs.declared.path.Course.TheVariants as course
 use Rattle.sqlite.specs.declared.file.Leftover.{Leftover}
 use Rattle.sqlite.specs.Files.{file_state, over_files, image_of, IsOpened, IsCleanLeft, HoldsDatabase, IsNothing}
+use Rattle.sqlite.specs.Files.{FailsToClose, FailsToOpenFiles, IsClosed}
 use Rattle.sqlite.specs.Held.{Held, state}
 use Rattle.sqlite.specs.Start.{FindsIn}
 use Rattle.sqlite.specs.State.{State, HasCleanDisk}
@@ -83,19 +90,38 @@ pub record LeavesFiles {D : Type 0} (g : Ghosts D) (b : History) (files : Files 
   pub seen : KeepsAlone b (image_of g files)
   pub left : (image : Image) → outcomes g files.log files.db image → KeepsAlone b image
 
+-- by the database's error, where its files are opened
+abbrev pub told_opening : Error → StoreFault
+told_opening error = opening_fault_of (told error Open)
+
+-- and where they are closed
+abbrev pub told_closing : Error → StoreFault
+told_closing error = fault_of (told_using error)
+
+-- A connection to files was closed so. What it committed is in the database file, as that reads now and after any crash;
+-- or that was refused, by the database's error, and a crash finds nothing that it wouldn't have found before.
+abbrev pub HasClosed : {D : Type 0} {g : Ghosts D} → Held (FileStore D g) → Result (Files D) StoreFault → Type 0
+HasClosed {g = g} was (Ok files) = AreClean g files.log files.db → IsCopied was files
+HasClosed {D} {g} was (Err fault) = (error : Error) × (fault ≡ told_closing error)
+    × ((left : FileStore D g) × IsClosed was left × (IsClean (view left) → FailsToClose was left error))
+
 -- the tables of a connection were taken to the schema of now
 abbrev pub HasMigrated : State → State → Type 0
 HasMigrated old new = Migrates {E = StoreFault} old new (Ok tt)
 
-pub record IsMigrated {D : Type 0} {g : Ghosts D} (was : Held (FileStore D g)) : Type 0 where
+-- and what that left was closed so
+pub record IsMigrated {D : Type 0} {g : Ghosts D} (was : Held (FileStore D g)) (done : Result (Files D) StoreFault)
+    : Type 0 where
   pub left : Held (FileStore D g)
   pub migrates : HasMigrated (file_state was) (file_state left)
+  pub closed : HasClosed left done
 
 -- those of one that was opened over what the files held
 pub record MigratesFound {D : Type 0} (g : Ghosts D) (held : Image) : Type 0 where
   pub was : Held (FileStore D g)
   pub found : HasCleanDisk (file_state was) → IsOpened was × FindsIn held (file_state was)
-  pub migrated : IsMigrated was
+  pub done : Result (Files D) StoreFault
+  pub migrated : IsMigrated was done
 
 -- a store was opened so, and this came of it
 abbrev pub OpensThen : {D : Type 0} (g : Ghosts D) → Image → (BaseValue (FileStore D g) → Type 0) → Type 0
@@ -120,6 +146,29 @@ pub record OpensForeign {D : Type 0} (g : Ghosts D) (held : Image) : Type 0 wher
 abbrev pub OpensNothing : {D : Type 0} → Ghosts D → Image → Type 0
 OpensNothing {D} g held =
     (left : Leftover D g) × (IsCleanLeft left → ¬ (((db : Trees) × HoldsDatabase held db) ⊎ IsNothing held))
+
+-- Files that held this weren't opened, by that error, once those at the path were: for memory or a limit, for a fault of
+-- the disk, or for what they held.
+abbrev pub FailsToOpen : {D : Type 0} → Ghosts D → Image → Error → Type 0
+FailsToOpen {D} g held error =
+    (left : Option (Leftover D g))
+    × (left ≡ None → (error ≡ SqliteFailure code.CannotOpen)
+    ⊎ ((error ≡ SqliteFailure code.OutOfMemory) ⊎ (error ≡ SqliteFailure code.DatabaseBusy)))
+    × IfSome left (λ it. (files : Files D) × (image_of g files ≡ held)
+    × (IsCleanLeft it → FailsToOpenFiles files it error))
+
+-- a connection was opened over what the files held, and its database has no table, index or view
+pub record IsBare {D : Type 0} (g : Ghosts D) (held : Image) : Type 0 where
+  pub was : Held (FileStore D g)
+  pub found : HasCleanDisk (file_state was) → IsOpened was × FindsIn held (file_state was)
+  pub bare : (file_state was).now.schema ≡ no_schema
+
+-- nothing of the counter's or another's stands there
+abbrev pub IsFree : {D : Type 0} → Ghosts D → Image → FileState → Type 0
+IsFree g held found.Nothing = Unit {0}
+IsFree g held found.Empty = Unit {0}
+IsFree g held found.Database = IsBare g held
+IsFree g held found.Other = ⊥
 
 -- why files are another's
 abbrev pub IsForeign : {D : Type 0} → Ghosts D → Image → Type 0
@@ -152,11 +201,3 @@ fault_where_made found.Other = Err NotOurs
 abbrev pub fault_at : Course → FileState → Result (Unit {0}) StoreFault
 fault_at course.Adopt = fault_where
 fault_at course.Create = fault_where_made
-
--- by the database's error, where its files are opened
-abbrev pub told_opening : Error → StoreFault
-told_opening error = opening_fault_of (told error Open)
-
--- and where they are closed
-abbrev pub told_closing : Error → StoreFault
-told_closing error = fault_of (told_using error)

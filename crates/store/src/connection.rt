@@ -13,7 +13,7 @@ ghost use Rattle.tables.specs.Schema.{no_schema};
 ghost use Rattle.book.specs.Entries.{entries_view, with_all, FitInTurn};
 ghost use Rattle.book.specs.Fault.{IsOfStorage, IsOfStorageOr};
 ghost use Rattle.book.specs.History.{History};
-ghost use Rattle.store.specs.Files.{LeavesFiles, LeavesAsItWas, LeavesOrMakes, LeavesOrMigrates, told_closing};
+ghost use Rattle.store.specs.Files.{HasClosed, LeavesFiles, LeavesAsItWas, LeavesOrMakes, LeavesOrMigrates, told_closing};
 ghost use Rattle.book.specs.Sound.{IsSound};
 ghost use Rattle.store.specs.Stands.{Stands};
 ghost use Rattle.store.specs.TablesOf.{tables_of};
@@ -150,12 +150,21 @@ impl<D: Disk + Drop> Store<FileStore<D>> {
     pub fn close(self) -> Result<Files<D>, StoreFault>
         ensures copied { IfOk result (λ files. AreClean D.Disk files.log files.db
             → (b : History) → Stands over_files b self → LeavesFiles D.Disk b files) }
+        ensures closed { HasClosed self.conn result }
         ensures refusals { IfErr result IsOfStorage }
     {
-        match self.into_connection().close_files() {
-            Ok(files) => Ok(files),
-            Err((error, _left)) => Err(closing_fault(error)),
-        }
+        close(self.into_connection())
+    }
+}
+
+/// Closes a connection as a store is closed.
+pub(crate) fn close<D: Disk + Drop>(conn: Connection<FileStore<D>>) -> Result<Files<D>, StoreFault>
+    ensures closed { HasClosed conn result }
+    ensures refusals { IfErr result IsOfStorage }
+{
+    match conn.close_files() {
+        Ok(files) => Ok(files),
+        Err((error, _left)) => Err(closing_fault(error)),
     }
 }
 

@@ -15,16 +15,18 @@ ghost use Rattle.book.specs.Sound.{IsSound};
 ghost use Rattle.store.specs.TablesOf.{tables_of};
 ghost use Rattle.store.specs.Stands.{Stands};
 ghost use Rattle.store.specs.Files.{OpensFound, IsForeign, OpensNothing, SeemsForeign, IsMigrated, HasMigrated};
-ghost use Rattle.store.specs.Files.{MigratesFound};
+ghost use Rattle.store.specs.Files.{FailsToOpen, IsBare, IsFree, MigratesFound};
 ghost use Rattle.store.specs.Files.{told_opening};
 ghost use Rattle.store.specs.Files.{fault_where, fault_where_made, fault_at};
 ghost use Rattle.book.specs.Fault.{IsOfStorageOr};
+ghost use Rattle.sqlite.specs.declared.error.Error.{Error as SpecError};
 
+use crate::connection::close;
 use crate::place::{FileState, Place, find, try_making};
 use crate::store::Store;
 use book::{Entry, StoreFault};
 use sqlite::{Alter, Connection, Error, ErrorCode, FileFrom, FileStore, Start, Unknown};
-use sqlite_disk::Disk;
+use sqlite_disk::{Disk, Files};
 use std::alloc::Global;
 use tables::{OpenFault, Task};
 
@@ -139,22 +141,23 @@ impl<T: Start + Drop> Store<FileStore<FileFrom<T>>> {
     {
         let conn = connect(rt, place.path, start)?;
         match migrate_files(conn) {
-            Ok(()) => Ok(()),
+            // What was committed stays in the log where it can't be copied into the file.
+            Ok(_closed) => Ok(()),
             Err(fault) => Err(fault),
         }
     }
 }
 
-/// Takes the tables in the files of a connection to the schema of now, and closes it.
-fn migrate_files<D: Disk + Drop>(conn: Connection<FileStore<D>>) -> Result<(), StoreFault>
+/// Takes the tables in the files of a connection to the schema of now, and closes it: what came of that.
+fn migrate_files<D: Disk + Drop>(
+    conn: Connection<FileStore<D>>,
+) -> Result<Result<Files<D>, StoreFault>, StoreFault>
     requires { conn.in_transaction ≡ false }
-    ensures migrated { IfOk result (λ _. IsMigrated conn) }
+    ensures migrated { IfOk result (IsMigrated conn) }
     ensures refusals { IfErr result (IsOfStorageOr StoreFault.NotOurs) }
 {
     let conn = migrate_or_drop(conn)?;
-    // What was committed stays in the log where it can't be copied into the file.
-    let _closed = conn.close();
-    Ok(())
+    Ok(close(conn))
 }
 
 /// The place of a database.
@@ -194,23 +197,32 @@ fn may_make(found: FileState) -> Result<(), StoreFault>
 pub fn may_make_at(rt: &HostRuntime, path: &str) -> Result<(), StoreFault>
     ensures { IfErr result (IsOfStorageOr StoreFault.NotOurs) }
 {
-    let place = find(rt, path)?;
+    may_make_at_place(rt, find(rt, path)?)
+}
+
+/// The same at a place: where they can be made, nothing of the counter's or another's stands there.
+fn may_make_at_place(rt: &HostRuntime, place: Place<'_>) -> Result<(), StoreFault>
+    ensures free { OnOk result (IsFree ⟦<FileFrom<Unknown> as Disk>⟧ (image_at ⟦<Unknown as Start>⟧)
+        place.entry.found) }
+    ensures refusals { IfErr result (IsOfStorageOr StoreFault.NotOurs) }
+{
     may_make(place.found)?;
     match place.found {
-        FileState::Nothing => try_making(rt, path)?,
-        FileState::Database => look_for_tables(rt, path)?,
-        FileState::Empty | FileState::Other => {}
+        FileState::Nothing => Ok(try_making(rt, place.path)?),
+        FileState::Database => look_for_tables(rt, place.path),
+        FileState::Empty | FileState::Other => Ok(()),
     }
-    Ok(())
 }
 
 /// Looks whether the database at a path has no table: else it is `NotOurs`. Nothing is supposed of its files, since no
 /// clause names what they hold.
 fn look_for_tables(rt: &HostRuntime, path: &str) -> Result<(), StoreFault>
-    ensures { IfErr result (IsOfStorageOr StoreFault.NotOurs) }
+    ensures bare { OnOk result (IsBare ⟦<FileFrom<Unknown> as Disk>⟧ (image_at ⟦<Unknown as Start>⟧)) }
+    ensures refusals { IfErr result (IsOfStorageOr StoreFault.NotOurs) }
 {
     let conn = connect(rt, path, Unknown)?;
-    drop_if_bare(conn)
+    drop_if_bare(conn)?;
+    Ok(())
 }
 
 /// Drops a connection whose database has no table, index or view; else it is `NotOurs`.
@@ -239,6 +251,8 @@ fn connect<T: Start + Drop>(
     ensures plain { IfOk result (λ conn. HasCleanDisk (file_state conn) → IsBlankAs false (image_at T.Start)
         → (view conn.store).has_sums ≡ false) }
     ensures none { IfErr result (λ e. e ≡ StoreFault.NotOurs → OpensNothing ⟦<FileFrom<T> as Disk>⟧ (image_at T.Start)) }
+    ensures told { IfErr result (λ e. (error : SpecError) × (e ≡ told_opening error)
+        × FailsToOpen ⟦<FileFrom<T> as Disk>⟧ (image_at T.Start) error) }
     ensures refusals { IfErr result (IsOfStorageOr StoreFault.NotOurs) }
 {
     match Connection::open_from(rt, path, false, start) {

@@ -1,12 +1,11 @@
 use Rattle.std.proofs.Common.{subst}
-use Rattle.sqlite.specs.Closing.{IsCopied}
-use Rattle.store.proofs.ClosedStores.{leaves_files}
+use Rattle.store.specs.Files.{HasClosed}
+use Rattle.store.proofs.ClosedStores.{copied_of}
 use Rattle.store.proofs.connection.Store+FileStore+D.close.Goals as goal
 
-pub returns-in-Ok-clause-copied : goal.returns-in-Ok-clause-copied
-returns-in-Ok-clause-copied g c clean b s =
-    leaves_files _ _ b (subst (λ conn. IsCopied conn c.in-Ok.files) c.into_connection.ensures.same
-    (c.in-Ok.ensures.copied clean)) s
+pub returns-clause-copied : goal.returns-clause-copied
+returns-clause-copied g c = copied_of _ _ c.into_connection.ensures.same _ c.close.ensures.closed
 
-pub returns-in-Err-clause-refusals : goal.returns-in-Err-clause-refusals
-returns-in-Err-clause-refusals g c = c.closing_fault.ensures.refusals
+pub returns-clause-closed : goal.returns-clause-closed
+returns-clause-closed g c =
+    subst (λ conn. HasClosed conn c.close.result) c.into_connection.ensures.same c.close.ensures.closed
