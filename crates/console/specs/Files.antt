@@ -1,6 +1,6 @@
 -- Files that are read, as what opens them tells: which octets, in which order, and which fault.
 use Rattle.std.specs.Prelude.{◌≡◌, ◌≢◌, ◌⊎◌, ℕ, ◌+◌, ◌*◌, ◌≤◌, List, [], length, take, Option, Some, None, IfSome}
-use Rattle.std.specs.Prelude.{Result, Ok, Err, String, Vec, string_bytes}
+use Rattle.std.specs.Prelude.{Result, Ok, Err, String, Vec, string_bytes, IsUtf8}
 use Rattle.std.specs.declared.io.ErrorKind.{ErrorKind}
 use Rattle.std.specs.declared.io.ErrorKind.TheVariants.{OutOfMemory}
 use Rattle.cms.specs.Certificate.{CertificateParts, IsAlgorithm, IsCertificate, identity_with}
@@ -93,20 +93,20 @@ source_of opens refuses remaining source = record {
 
 module _ {S F : Type 0} (files : Source S F) where
   -- What reading at most so many octets of the file at a path gives: all that it has where these are fewer. It fails
-  -- where the file can't be opened, or not read to there.
+  -- by the kind of the error, where the file can't be opened, or not read to there.
   abbrev pub Reads : List ℕ → ℕ → Result (List ℕ) InputFault → Type 0
   Reads path most (Ok octets) =
       (file : F) × (files.opens files.source path file
       × IfSome (files.remaining file) (λ all. octets ≡ take most all))
-  Reads path most (Err fault) = ((kind : ErrorKind) × (files.refuses files.source path kind × IsFaultOf kind fault))
-      ⊎ ((file : F) × (files.opens files.source path file × ((fault ≡ File) ⊎ (fault ≡ Memory))))
+  Reads path most (Err fault) = (kind : ErrorKind) × (files.refuses files.source path kind × IsFaultOf kind fault)
 
-  -- The same of a whole file, as text.
+  -- The same of a whole file, as text; one that isn't UTF-8 is none.
   abbrev pub ReadsText : List ℕ → Result (List ℕ) InputFault → Type 0
   ReadsText path (Ok text) =
       (file : F) × (files.opens files.source path file × IfSome (files.remaining file) (λ all. text ≡ all))
   ReadsText path (Err fault) = ((kind : ErrorKind) × (files.refuses files.source path kind × IsFaultOf kind fault))
-      ⊎ ((file : F) × (files.opens files.source path file × ((fault ≡ File) ⊎ (fault ≡ Memory))))
+      ⊎ ((fault ≡ File) × ((file : F) × (files.opens files.source path file
+      × IfSome (files.remaining file) (λ all. IsUtf8 all → ⊥))))
 
   -- A policy file is read, and what it means follows from its text.
   pub data ReadsPolicy (path : List ℕ) (result : Result PolicyRead Fault) : Type 0 where

@@ -2,6 +2,7 @@
 ghost use Rattle.std.specs.Prelude.{◌≡◌, ◌⊎◌, List, ℕ, Ok, Err, OnOk, IfOk, IfErr, ◌∷◌, [], string_bytes};
 ghost use Rattle.std.specs.Fmt.{decimal};
 ghost use Rattle.std.specs.Io.KnownBytes.{Appends};
+ghost use Rattle.audit.specs.Failures.{HasFailed};
 ghost use Rattle.policy.specs.Answers.{IsFirstFault};
 ghost use Rattle.policy.specs.Meaning.{meaning_of};
 ghost use Rattle.policy.specs.View.{policy_view};
@@ -13,10 +14,10 @@ ghost use Rattle.console.specs.Writes.{Begins};
 use crate::fault::{Fault, InputFault};
 use crate::output::write_text;
 use crate::source::FileSource;
+use audit::Output;
 use command_line::CheckWords;
 use policy::Policy;
 use std::alloc::{AllocError, Global};
-use std::io;
 use std::io::Write;
 
 /// Does what the word `check` asks for: reads a policy file, and writes how many algorithms, extensions, policies and
@@ -73,20 +74,21 @@ fn read_text<F: FileSource + AllocGlobal>(rt: &F, path: &str) -> Result<String, 
     ensures reads { ReadsText (source_of F.opens F.refuses F.File.remaining rt.now) path.now (text_of result) }
     ensures faults { IfErr result (λ fault. (fault ≡ InputFault.File) ⊎ (fault ≡ InputFault.Memory)) }
 {
-    let file = rt.open(path)?;
-    match io::read_to_string(rt.alloc(), file) {
+    let octets = rt.read(path, u64::MAX)?;
+    match String::from_utf8(octets) {
         Ok(text) => Ok(text),
-        Err(error) => Err(InputFault::from(error.kind())),
+        Err(_) => Err(InputFault::File),
     }
 }
 
 /// Writes the numbers of algorithms, extensions, policies and accounts as one line. A write that fails is `Failed`: a
 /// beginning of the line was written then. `Memory` where memory runs out, before anything is written.
-fn write_counts<W: Write>(alloc: Global, policy: &Policy, output: &mut W) -> Result<(), InputFault>
+fn write_counts<W: Output>(alloc: Global, policy: &Policy, output: &mut W) -> Result<(), InputFault>
     ensures written { OnOk result (Appends (W.contents output.old) (W.contents output.new)
         (counts_line (policy_view policy.now))) }
     ensures begun { result ≡ Err InputFault.Failed
         → Begins (W.contents output.old) (W.contents output.new) (counts_line (policy_view policy.now)) }
+    ensures failed { result ≡ Err InputFault.Failed → HasFailed (W.failures output.old) (W.failures output.new) }
     ensures kept { result ≡ Err InputFault.Memory → W.contents output.new ≡ W.contents output.old }
     ensures faults { IfErr result (λ fault. (fault ≡ InputFault.Failed) ⊎ (fault ≡ InputFault.Memory)) }
 {

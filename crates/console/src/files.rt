@@ -10,7 +10,6 @@ use crate::fault::{Fault, InputFault};
 use crate::source::FileSource;
 use cms::{Algorithm, Identity, KeyedHash};
 use std::alloc::Global;
-use std::io::Read;
 
 /// One octet more than a certificate may have.
 const BEYOND_A_CERTIFICATE: u64 = 16_385;
@@ -115,10 +114,5 @@ fn read_beginning<F: FileSource + AllocGlobal>(
     ensures reads { Reads (source_of F.opens F.refuses F.File.remaining rt.now) path.now most (octets_of result) }
     ensures faults { IfErr result (λ fault. (fault ≡ InputFault.File) ⊎ (fault ≡ InputFault.Memory)) }
 {
-    let file = rt.open(path)?;
-    let mut octets = Vec::new(rt.alloc());
-    match file.take(most).read_to_end(&mut octets) {
-        Ok(_) => Ok(octets),
-        Err(error) => Err(InputFault::from(error.kind())),
-    }
+    Ok(rt.read(path, most)?)
 }

@@ -1,13 +1,15 @@
 //! Hexadecimal text, on standard input and output.
 ghost use Rattle.std.specs.Prelude.{◌≡◌, ◌⊎◌, List, ℕ, Err, OnOk, IfOk, IfErr, IfSome, string_bytes};
 ghost use Rattle.std.specs.Io.KnownBytes.{Appends};
+ghost use Rattle.audit.specs.Failures.{HasFailed};
 ghost use Rattle.console.specs.Hexadecimal.{IsHexadecimal, is_blank, line, without_blanks};
 ghost use Rattle.console.specs.Writes.{Begins};
 
 use crate::fault::InputFault;
 use crate::output::write_text;
+use audit::Output;
 use std::alloc::{AllocError, Global};
-use std::io::{ErrorKind, Read, Write};
+use std::io::{ErrorKind, Read};
 
 /// The octets that a reader's hexadecimal text spells. All of it is read before it is judged. `Failed` where a read
 /// fails, `NotHexadecimal` where the text spells no octets, and `Memory` where memory runs out.
@@ -25,7 +27,7 @@ pub fn read_hexadecimal<R: Read>(alloc: Global, input: &mut R) -> Result<Vec<u8>
 
 /// Writes the octets as one line of hexadecimal digits in lower case. A write that fails is `Failed`: a beginning of
 /// the line was written then. `Memory` where memory runs out, before anything is written.
-pub fn write_hexadecimal<W: Write>(
+pub fn write_hexadecimal<W: Output>(
     alloc: Global,
     octets: &[u8],
     output: &mut W,
@@ -34,6 +36,7 @@ pub fn write_hexadecimal<W: Write>(
         (Appends (W.contents output.old) (W.contents output.new) (line octets.now)) }
     ensures begun { result ≡ Err InputFault.Failed
         → Begins (W.contents output.old) (W.contents output.new) (line octets.now) }
+    ensures failed { result ≡ Err InputFault.Failed → HasFailed (W.failures output.old) (W.failures output.new) }
     ensures kept { result ≡ Err InputFault.Memory → W.contents output.new ≡ W.contents output.old }
     ensures faults { IfErr result (λ fault.
         (fault ≡ InputFault.Failed) ⊎ (fault ≡ InputFault.Memory)) }
