@@ -1,8 +1,7 @@
 -- Which histories a book stands for, and what its calls leave.
-use Rattle.std.specs.Prelude.{◌⊎◌, ◌∷◌}
 use Rattle.book.specs.declared.standing.Standing.{Ghosts}
-use Rattle.book.specs.History.{Entry, History}
-use Rattle.book.specs.Sound.{Fits, IsSound}
+use Rattle.book.specs.History.{History}
+use Rattle.book.specs.Sound.{IsSound}
 
 -- the history is sound, the book keeps it, and while it is open and returned what was written a stop leaves nothing
 -- else
@@ -16,12 +15,6 @@ pub record OnlyLooks {X : Type 0} (g : Ghosts X) (old new : X) : Type 0 where
   pub honest : g.honest new → g.honest old
   pub stands : (b : History) → Stands g b old → Stands g b new
   pub leaves : g.honest new → (left : g.Left) → g.leaves new left → g.leaves old left
-
--- after a stop in the call or at its end: what could be left before, or the history with the entry
-abbrev pub LeavesOrAdds : {X : Type 0} → Ghosts X → Entry → X → X → Type 0
-LeavesOrAdds g entry old new =
-    g.honest new → (left : g.Left) → g.leaves new left
-    → g.leaves old left ⊎ ((b : History) → Stands g b old → Fits entry b → g.holds left (entry ∷ b))
 
 abbrev pub LeavesAsBefore : {X : Type 0} → Ghosts X → X → X → Type 0
 LeavesAsBefore g old new = (left : g.Left) → g.leaves new left → g.leaves old left
