@@ -10,9 +10,9 @@ use Rattle.std.proofs.lemmas.List.Elements.{length_all_zip}
 use Rattle.std.specs.List.{AllByRecursion}
 use Rattle.std.proofs.lemmas.Bool.{false≢true}
 use Rattle.std.specs.Io.KnownBytes.{Consumes, IsAtEnd}
-use Rattle.service.specs.Received.{ReceivedValue, Receives, is_open}
+use Rattle.service.specs.Received.{ReceivedValue, Receives}
 use Rattle.connections.specs.Places.{Place, IsReadOn, AreReadOn, IsTakenOut, IsUnread, AreAdded, IsAdded, AreWaitedFor}
-use Rattle.connections.specs.Places.{HandsOut, FailsOne, IsUnfinished, IsWholeAt}
+use Rattle.connections.specs.Places.{HandsOut, FailsOne, IsUnfinished, IsWhole, IsWholeAt, most_places}
 use Rattle.connections.specs.Waiting.{place_of}
 use Rattle.connections.specs.declared.waiting.Waiting.{Waiting}
 
@@ -23,11 +23,11 @@ all_then P (x ∷ xs) ys all more = (all.0, all_then P xs ys all.1 more)
 
 module _ {S : Type 0} (most : ℕ) where
   pub none_added : (old : List (Place S)) → AreAdded most old old
-  none_added old = record { taken = []; unread = tt; behind = sym (append-nil old); few = inl refl }
+  none_added old = record { taken = []; unread = tt; behind = sym (append-nil old); few = inl refl; room = inl refl }
 
-  pub one_added : (old mid new : List (Place S)) → AreAdded most old mid → length mid < most → IsAdded mid new
-      → AreAdded most old new
-  one_added old mid new added fewer more =
+  pub one_added : (old mid new : List (Place S)) → AreAdded most old mid → length mid < most
+      → length mid ≤ most_places → IsAdded mid new → AreAdded most old new
+  one_added old mid new added fewer some more =
       let one = more.0 in
       record {
         taken = added.taken ++ (one ∷ []);
@@ -35,6 +35,7 @@ module _ {S : Type 0} (most : ℕ) where
         behind = more.1.1
             ∙ (ap (λ xs. xs ++ (one ∷ [])) added.behind ∙ append_assoc old added.taken (one ∷ []));
         few = inr (omega (arith, fewer, ap length more.1.1, length-append mid (one ∷ [])));
+        room = inr (omega (arith, some, ap length more.1.1, length-append mid (one ∷ [])));
       }
 
   pub more_added : (few : ℕ) (old new : List (Place S)) → few ≤ most → AreAdded few old new → AreAdded most old new
@@ -43,6 +44,7 @@ module _ {S : Type 0} (most : ℕ) where
     unread = added.unread;
     behind = added.behind;
     few = elim added.few [ inl none ↦ inl none | inr these ↦ inr (omega (arith, within, these)) ];
+    room = added.room;
   }
 
 -- nothing comes behind the end
@@ -74,6 +76,16 @@ ends_then a b c bs cs first second was true is ended later fresh end =
     end_then a b c bs cs first second (ended fresh refl)
 ends_then a b c bs cs first second was false is ended later fresh end =
     end_of_told a b c bs first (later refl end)
+
+few_then : {S : Type 0} (most : ℕ) (first second : List (Place S)) (between mid last : List (Place S)) → length between ≡ length mid
+    → last ≡ mid ++ second → ((first ≡ []) ⊎ (length between ≤ most)) → ((second ≡ []) ⊎ (length last ≤ most))
+    → ((first ++ second ≡ []) ⊎ (length (between ++ second) ≤ most))
+few_then most first second between mid last long is (inl none) (inl nothing) =
+    inl (ap (λ xs. xs ++ second) none ∙ nothing)
+few_then most first second between mid last long is (inr few) (inl nothing) =
+    inr (omega (arith, few, length-append between second, ap length nothing))
+few_then most first second between mid last long is start (inr few) =
+    inr (omega (arith, few, long, ap length is, length-append between second, length-append mid second))
 
 module _ {S : Type 0} (remaining : S → Option (List ℕ)) where
   pub still_read : (one : Place S) → IsReadOn remaining one one
@@ -153,8 +165,11 @@ module _ {S : Type 0} (remaining : S → Option (List ℕ)) where
     pub waits_same : (old new : List (Place S)) → new ≡ old → Waits old new
     waits_same old new same = subst (λ all. Waits old all) (sym same) (waits_none old)
 
-    pub waits_one : (old new : List (Place S)) → length old < most → IsAdded old new → Waits old new
-    waits_one old new fewer more = waits_added old new (one_added most old old new (none_added most old) fewer more)
+    pub waits_one : (old new : List (Place S)) → (length old < most) × (length old ≡ most_places) → IsAdded old new
+        → Waits old new
+    waits_one old new fewer more =
+        waits_added old new
+        (one_added most old old new (none_added most old) fewer.0 (omega (arith, fewer.1)) more)
 
     pub waits_read : (old mid new : List (Place S)) → Waits old mid → Read mid new → Waits old new
     waits_read old mid new waits read = record {
@@ -163,31 +178,23 @@ module _ {S : Type 0} (remaining : S → Option (List ℕ)) where
       read = all_then_read waits.between mid new waits.read read;
     }
 
-    few_then : (first second : List (Place S)) (between mid last : List (Place S)) → length between ≡ length mid
-        → last ≡ mid ++ second → ((first ≡ []) ⊎ (length between ≤ most)) → ((second ≡ []) ⊎ (length last ≤ most))
-        → ((first ++ second ≡ []) ⊎ (length (between ++ second) ≤ most))
-    few_then first second between mid last long is (inl none) (inl nothing) =
-        inl (ap (λ xs. xs ++ second) none ∙ nothing)
-    few_then first second between mid last long is (inr few) (inl nothing) =
-        inr (omega (arith, few, length-append between second, ap length nothing))
-    few_then first second between mid last long is start (inr few) =
-        inr (omega (arith, few, long, ap length is, length-append between second, length-append mid second))
-
     pub waits_then : (old mid new : List (Place S)) → Waits old mid → Waits mid new → Waits old new
     waits_then old mid new first second =
         let more = second.added.taken in
         let read : Read (first.between ++ more) second.between =
         subst (λ all. Read (first.between ++ more) all) (sym second.added.behind)
         (all_behind first.between mid more first.read) in
+        let long = length_all_zip (IsReadOn remaining) first.between mid first.read in
         record {
           between = first.between ++ more;
           added = record {
             taken = first.added.taken ++ more;
             unread = all_then IsUnread first.added.taken more first.added.unread second.added.unread;
             behind = ap (λ xs. xs ++ more) first.added.behind ∙ append_assoc old first.added.taken more;
-            few = few_then first.added.taken more first.between mid second.between
-                (length_all_zip (IsReadOn remaining) first.between mid first.read) second.added.behind first.added.few
-                second.added.few;
+            few = few_then most first.added.taken more first.between mid second.between long second.added.behind
+                first.added.few second.added.few;
+            room = few_then (most_places + 1) first.added.taken more first.between mid second.between long
+                second.added.behind first.added.room second.added.room;
           };
           read = all_then_read (first.between ++ more) second.between new read second.read;
         }
@@ -287,8 +294,8 @@ module _ {S : Type 0} (place : ℕ) (one : Place S) (all new : List (Place S)) (
       ∙ (ap (λ n. get_or (out.before ++ (one ∷ out.behind)) n one) (sym out.there)
       ∙ get_or-append_seam out.before one out.behind one)
 
-  pub whole_taken : IsWholeAt place true all → is_open one.received ≡ false
-  whole_taken whole = subst (λ p. is_open p.received ≡ false) taken_is (whole.whole refl one)
+  pub whole_taken : IsWholeAt place true all → IsWhole one.received
+  whole_taken whole = subst (λ p. IsWhole p.received) taken_is (whole.whole refl one)
 
   pub unfinished_taken : IsWholeAt place false all → IsUnfinished one.received
   unfinished_taken whole = subst (λ p. IsUnfinished p.received) taken_is (whole.unfinished refl one)
@@ -326,7 +333,7 @@ cut_behind all new cut added =
 
 -- the one that was read last is whole, or isn't
 pub whole_at : {W S : Type 0} (place_of : W → Place S) (mid : List W) (place : ℕ) (one : W) (is_whole : Bool)
-    → place < length mid → (is_whole ≡ true → is_open (place_of one).received ≡ false)
+    → place < length mid → (is_whole ≡ true → IsWhole (place_of one).received)
     → (is_whole ≡ false → IsUnfinished (place_of one).received)
     → IsWholeAt place is_whole (map place_of (set mid place one))
 whole_at {W} {S} place_of mid place one is_whole within whole unfinished =
@@ -338,7 +345,7 @@ whole_at {W} {S} place_of mid place one is_whole within whole unfinished =
     ∙ get_or-set_same (map place_of mid) place (place_of one) other (omega (arith, within, length-map mid place_of))) in
     record {
       within = omega (arith, within, there);
-      whole = λ told other. subst (λ p. is_open p.received ≡ false) (is other) (whole told);
+      whole = λ told other. subst (λ p. IsWhole p.received) (is other) (whole told);
       unfinished = λ told other. subst (λ p. IsUnfinished p.received) (is other) (unfinished told);
     }
 

@@ -1,5 +1,5 @@
 -- Connections whose requests are still to come, in the order in which they were taken, and what came of each.
-use Rattle.std.specs.Prelude.{◌≡◌, ◌⊎◌, ℕ, ◌<◌, ◌≤◌, Bool, true, false, List, [], ◌∷◌, ◌++◌, length, slice_index_or}
+use Rattle.std.specs.Prelude.{◌≡◌, ◌⊎◌, ℕ, ◌+◌, ◌<◌, ◌≤◌, Bool, true, false, List, [], ◌∷◌, ◌++◌, length, slice_index_or}
 use Rattle.std.specs.Prelude.{Option, Some, None, OnSome}
 use Rattle.std.specs.Io.KnownBytes.{Consumes, IsAtEnd}
 use Rattle.std.specs.List.{AllByRecursion, AllZip}
@@ -35,12 +35,17 @@ pub record IsTakenOut {S : Type 0} (place : ℕ) (one : Place S) (old new : List
 abbrev pub IsUnread : {S : Type 0} → Place S → Type 0
 IsUnread one = (one.received.octets ≡ []) × (one.received.is_ended ≡ false)
 
--- New ones get places behind the others, as long as fewer than so many have one.
+-- so many connections have places side by side at most, and one more, for which one of them is given up
+abbrev pub most_places : ℕ
+most_places = 256
+
+-- New ones get places behind the others, as long as fewer than so many have one, and there is room.
 pub record AreAdded {S : Type 0} (most : ℕ) (old new : List (Place S)) : Type 0 where
   pub taken : List (Place S)
   pub unread : AllByRecursion IsUnread taken
   pub behind : new ≡ old ++ taken
   pub few : (taken ≡ []) ⊎ (length new ≤ most)
+  pub room : (taken ≡ []) ⊎ (length new ≤ most_places + 1)
 
 -- a new one gets a place behind the others
 abbrev pub IsAdded : {S : Type 0} → List (Place S) → List (Place S) → Type 0
@@ -58,12 +63,16 @@ abbrev pub AreHeardOn : {S : Type 0} → (S → Option (List ℕ)) → Option �
 AreHeardOn remaining (Some most) old new = AreWaitedFor remaining most old new
 AreHeardOn remaining None old new = AreReadOn remaining old new
 
+-- It is whole: no others are wanted, or none may come, and the input didn't end before any came.
+abbrev pub IsWhole : ReceivedValue → Type 0
+IsWhole r = (is_open r ≡ false) × (r.octets ≡ [] → r.is_ended ≡ true → ⊥)
+
 -- One whose request is whole is taken out of its place, and handed out by the octets that came of its own stream.
 pub record HandsOut {S : Type 0} (remaining : S → Option (List ℕ)) (waits : Option ℕ) (old : List (Place S))
     (received : ReceivedValue) (stream : S) (new : List (Place S)) : Type 0 where
   pub last : List (Place S)
   pub heard : AreHeardOn remaining waits old last
-  pub whole : is_open received ≡ false
+  pub whole : IsWhole received
   pub place : ℕ
   pub out : IsTakenOut place (record { received = received; stream = stream }) last new
 
@@ -82,5 +91,5 @@ pub record FailsOne {S : Type 0} (remaining : S → Option (List ℕ)) (waits : 
 -- one has that place, and its request is whole where that is told, and else isn't
 pub record IsWholeAt {S : Type 0} (place : ℕ) (is_whole : Bool) (all : List (Place S)) : Type 0 where
   pub within : place < length all
-  pub whole : is_whole ≡ true → (other : Place S) → is_open (slice_index_or all place other).received ≡ false
+  pub whole : is_whole ≡ true → (other : Place S) → IsWhole (slice_index_or all place other).received
   pub unfinished : is_whole ≡ false → (other : Place S) → IsUnfinished (slice_index_or all place other).received

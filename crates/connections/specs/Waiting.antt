@@ -1,7 +1,7 @@
 -- Connections that are waited for, as contracts see them.
-use Rattle.std.specs.Prelude.{◌≡◌, false, List, map}
-use Rattle.service.specs.Received.{ReceivedValue, is_open}
-use Rattle.connections.specs.Places.{Place, IsUnfinished}
+use Rattle.std.specs.Prelude.{List, map}
+use Rattle.service.specs.Received.{ReceivedValue}
+use Rattle.connections.specs.Places.{Place, IsUnfinished, IsWhole}
 use Rattle.connections.specs.declared.places.Places.{Places}
 use Rattle.connections.specs.declared.waiting.Progress.{Progress}
 use Rattle.connections.specs.declared.waiting.Progress.TheVariants.{Came, Waits, Whole, Failed}
@@ -17,5 +17,5 @@ places_of places = map place_of places.waiting.items
 abbrev pub HasCome : Progress → ReceivedValue → Type 0
 HasCome Came r = IsUnfinished r
 HasCome Waits r = IsUnfinished r
-HasCome Whole r = is_open r ≡ false
+HasCome Whole r = IsWhole r
 HasCome Failed r = IsUnfinished r

@@ -1,6 +1,6 @@
 //! A listener, and those of its connections that are read side by side.
-ghost use Rattle.std.specs.Prelude.{◌≡◌, ◌⊎◌, ◌<◌, true, false, [], length, Some, None, IfOk, MatchOption, OnErr, OnOk};
-ghost use Rattle.connections.specs.Places.{AreAdded, AreReadOn, AreWaitedFor, FailsOne, HandsOut, IsAdded};
+ghost use Rattle.std.specs.Prelude.{◌≡◌, ◌⊎◌, ◌<◌, ◌≤◌, true, false, [], length, Some, None, IfOk, MatchOption, OnErr, OnOk};
+ghost use Rattle.connections.specs.Places.{AreAdded, AreReadOn, AreWaitedFor, FailsOne, HandsOut, IsAdded, most_places};
 ghost use Rattle.connections.specs.Waiting.{places_of};
 
 use crate::closing::Closing;
@@ -243,6 +243,7 @@ impl<'l, R: AllocGlobal + Clock> Listening<'l, R> {
 
     /// Takes the connections that are there, as long as fewer than so many are waited for. Whether one failed.
     fn take(&mut self, now: Instant, most: usize) -> bool
+        requires { most ≤ most_places }
         ensures { AreAdded most (places_of self.old.places) (places_of self.new.places) }
     {
         self.is_short = false;
@@ -258,10 +259,11 @@ impl<'l, R: AllocGlobal + Clock> Listening<'l, R> {
 
     /// Whether one may be there that has no place, or no descriptor. At most so many are waited for.
     fn is_crowded(&self, most: usize) -> bool
-        ensures { result ≡ true → self.now.is_short ≡ false → length (places_of self.now.places) < most }
+        ensures { result ≡ true → self.now.is_short ≡ false → (length (places_of self.now.places) < most)
+            × (length (places_of self.now.places) ≡ most_places) }
     {
         let count = self.places.len();
-        self.is_ready && (self.is_short || (MOST_WAITING <= count && count < most))
+        self.is_ready && (self.is_short || (count == MOST_WAITING && count < most))
     }
 
     /// Gives up the connection that was taken first, if it has kept its place for long enough, for one that is there

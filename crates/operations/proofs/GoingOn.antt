@@ -2,7 +2,7 @@
 use Rattle.std.proofs.Common.{◌≡◌, ◌⊎◌, ℕ, ◌<◌, ◌≤◌, ◌==◌, ◌&&◌, ◌||◌, max, Bool, true, false, not, nat_le, nat_lt, List, []}
 use Rattle.std.proofs.Common.{◌∷◌, ◌++◌, map, reverse, Option, None, Some, option_map, option_to_list, refl, sym, ap, ap₂}
 use Rattle.std.proofs.Common.{◌∙◌, subst, inl, inr, arith, Result, Ok, Err, IfOk, IfErr, append_assoc, if◌then◌else◌, find, length, take, get_or, ◌+◌}
-use Rattle.std.specs.Prelude.{OnOk}
+use Rattle.std.specs.Prelude.{OnErr, OnOk}
 use Rattle.std.specs.List.{filter, list_any}
 use Rattle.std.proofs.Math.Nat.{le-max_left, le-max_right, max-eq_left}
 use Rattle.std.proofs.lemmas.Bool.{le-leb, le-ltb, lt-leb, lt-ltb, eq-eqb}
@@ -24,7 +24,7 @@ use Rattle.book.specs.Identities.{identities, identity_at_reservation, identity_
 use Rattle.book.specs.Identities.{installed_rows}
 use Rattle.book.specs.Ranges.{IsNextStamp}
 use Rattle.book.specs.Rows.{InstalledRow, StampRow}
-use Rattle.book.specs.Sound.{Along, IsSound, greatest_number}
+use Rattle.book.specs.Sound.{IsSound, greatest_number}
 use Rattle.book.specs.Stands.{OnlyLooks, Stands}
 use Rattle.book.specs.Values.{calibration_option, hold_view, identity_view, stamp_view}
 use Rattle.book.specs.declared.fault.StoreFault.{StoreFault}
@@ -33,10 +33,9 @@ use Rattle.book.specs.declared.standing.Standing.{Ghosts}
 use Rattle.book.specs.declared.values.Hold.{Hold}
 use Rattle.desk.specs.Content.{IsSoundInFull}
 use Rattle.desk.specs.Continuation.{IsRestated, IsStated, IsStatedIfAny}
-use Rattle.desk.specs.MachineRuns.{IsRising}
-use Rattle.operations.specs.Continuation.{Carries, ClosesKnown, Continues, IsBelow, IsCarried, IsClosedKnown}
+use Rattle.operations.specs.Continuation.{Carries, Closes, Continues, IsBelow, IsCarried}
 use Rattle.operations.specs.Continuation.{IsLookFault}
-use Rattle.operations.specs.Continuation.{IsRefused, MayBeClosed, Reaches, entries_of, entries_of_hold}
+use Rattle.operations.specs.Continuation.{IsRefused, Reaches, entries_of, entries_of_hold}
 use Rattle.operations.specs.Continuation.{entries_of_holds, entries_of_identity, entries_of_last, entries_of_stamp}
 use Rattle.operations.specs.Continuation.{identity_since_among, last_stamp_of, latest_of, void_in}
 use Rattle.operations.specs.DatabaseFaults.{IsOpeningFault}
@@ -281,68 +280,78 @@ next_hold old now new hs i d inside before more =
 
 -- ---- the old book
 
+err_weaker : {A E : Type 0} {P Q : Type 0} (done : Result A E) → (P → Q) → OnErr done P → OnErr done Q
+err_weaker (Ok a) then holds = tt
+err_weaker (Err e) then holds = then holds
+
 -- nothing is done to it, since it is closed
 pub closed_already : {X : Type 0} (g : Ghosts X) (Knows : History → Type 0) (book : X)
-    → ((b : History) → Knows b → is_closed b ≡ true) → ClosesKnown {A = Unit {0}} g Knows book book (Ok tt)
+    → ((b : History) → Knows b → is_closed b ≡ true)
+    → Closes {A = Unit {0}} {E = StoreFault} g Knows book book (Ok tt)
 closed_already g Knows book tells = record {
   honest = λ h. h;
-  closes = λ h b s k. rw (tells b k) s;
-  kept = λ b s. tt;
+  closed = λ h b s k. rw (tells b k) s;
+  kept = λ h b s k. tt;
   crash = λ h l leaves. inl leaves;
 }
 
 -- a hold of all moments is added
 pub closed_now : {X : Type 0} (g : Ghosts X) (Knows : History → Type 0) (old new : X) (done : Result (Unit {0}) StoreFault)
     → ((b : History) → Knows b → is_closed b ≡ false) → FitInTurn (Held all_moments ∷ []) []
-    → Appends g (Held all_moments ∷ []) old new done → ClosesKnown g Knows old new done
+    → Appends g (Held all_moments ∷ []) old new done → Closes g Knows old new done
 closed_now g Knows old new done tells fit appends = record {
   honest = appends.honest;
-  closes = λ h b s k. rw (tells b k) (appends.ok b s (fit.0, tt));
-  kept = appends.err;
+  closed = λ h b s k. rw (tells b k) (appends.ok b s (fit.0, tt));
+  kept = λ h b s k. err_weaker done (λ stands. inl stands) (appends.err b s);
   crash = λ h l leaves. elim (appends.crash h l leaves) [
     | inl before ↦ inl before
     | inr adds ↦ inr (λ b s k. rw (tells b k) (adds b s (fit.0, tt)))
   ];
 }
 
-pub may_be_closed : {X A : Type 0} (g : Ghosts X) (Knows : History → Type 0) (old new : X) (fault : StoreFault)
-    → ClosesKnown {A = A} g Knows old new (Err fault) → MayBeClosed g Knows old new
-may_be_closed g Knows old new fault closes =
-    record { honest = closes.honest; stands = λ h b s k. inl (closes.kept b s); crash = closes.crash }
+-- and then a stop leaves nothing else
+pub settled_now : {X : Type 0} (g : Ghosts X) (old new : X) (done : Result (Unit {0}) StoreFault)
+    → FitInTurn (Held all_moments ∷ []) [] → Appends g (Held all_moments ∷ []) old new done → g.honest new
+    → (left : g.Left) → g.leaves new left → (b : History) → Stands g b old → is_closed b ≡ false
+    → OnOk done (g.holds left (closed b))
+settled_now g old new (Ok done) fit appends honest left leaves b s k =
+    rw k ((appends.ok b s (fit.0, tt)).settled honest (appends.opened honest).1 left leaves)
+settled_now g old new (Err fault) fit appends honest left leaves b s k = tt
 
 -- what is said of histories that are known is said of others, where they are known
-pub known_from : {X : Type 0} (g : Ghosts X) (Knows Knew : History → Type 0) (old mid new : X) → OnlyLooks g old mid
-    → (g.honest mid → (b : History) → Stands g b old → Knew b → Knows b) → IsClosedKnown g Knows mid new
-    → IsClosedKnown g Knew old new
-known_from g Knows Knew old mid new looks tells closes = record {
+pub known_from : {X A E : Type 0} (g : Ghosts X) (Knows Knew : History → Type 0) (old mid new : X) (done : Result A E)
+    → OnlyLooks g old mid → (g.honest mid → (b : History) → Stands g b old → Knew b → Knows b)
+    → Closes g Knows mid new done → Closes g Knew old new done
+known_from g Knows Knew old mid new done looks tells closes = record {
   honest = λ h. looks.honest (closes.honest h);
-  closes = λ h b s k. closes.closes h b (looks.stands b s) (tells (closes.honest h) b s k);
+  closed = λ h b s k. closes.closed h b (looks.stands b s) (tells (closes.honest h) b s k);
+  kept = λ h b s k. closes.kept h b (looks.stands b s) (tells (closes.honest h) b s k);
   crash = λ h l leaves. elim (closes.crash h l leaves) [
     | inl before ↦ inl (looks.leaves (closes.honest h) l before)
     | inr adds ↦ inr (λ b s k. adds b (looks.stands b s) (tells (closes.honest h) b s k))
   ];
 }
 
-pub may_from : {X : Type 0} (g : Ghosts X) (Knows Knew : History → Type 0) (old mid new : X) → OnlyLooks g old mid
-    → (g.honest mid → (b : History) → Stands g b old → Knew b → Knows b) → MayBeClosed g Knows mid new
-    → MayBeClosed g Knew old new
-may_from g Knows Knew old mid new looks tells may = record {
-  honest = λ h. looks.honest (may.honest h);
-  stands = λ h b s k. may.stands h b (looks.stands b s) (tells (may.honest h) b s k);
-  crash = λ h l leaves. elim (may.crash h l leaves) [
-    | inl before ↦ inl (looks.leaves (may.honest h) l before)
-    | inr adds ↦ inr (λ b s k. adds b (looks.stands b s) (tells (may.honest h) b s k))
-  ];
-}
+-- the same closing, told of another answer
+pub closes_as : {X A C : Type 0} (g : Ghosts X) (Knows : History → Type 0) (old new : X) (a : A) (c : C)
+    → Closes {E = StoreFault} g Knows old new (Ok a) → Closes {E = StoreFault} g Knows old new (Ok c)
+closes_as g Knows old new a c closes =
+    record { honest = closes.honest; closed = closes.closed; kept = closes.kept; crash = closes.crash }
+
+pub fails_as : {X A C E : Type 0} (g : Ghosts X) (Knows : History → Type 0) (old new : X) (fault : E)
+    → Closes {A = A} g Knows old new (Err fault) → Closes {A = C} g Knows old new (Err fault)
+fails_as g Knows old new fault closes =
+    record { honest = closes.honest; closed = closes.closed; kept = closes.kept; crash = closes.crash }
 
 pub carries_after : {X : Type 0} (g : Ghosts X) (Knows Knew : History → Type 0) (floor : Option Floor)
     (old mid new : X) (done : Result Carried ContinuationFault) → OnlyLooks g old mid
     → (g.honest mid → (b : History) → Stands g b old → Knew b → Knows b) → Carries g Knows floor mid new done
     → Carries g Knew floor old new done
 carries_after g Knows Knew floor old mid new (Ok c) looks tells carries = (
-  known_from g Knows Knew old mid new looks tells carries.0,
+  known_from g Knows Knew old mid new (Ok c) looks tells carries.0,
   carries.1,
   λ h b s k. carries.2 h b (looks.stands b s) (tells (carries.0.honest h) b s k),
+  λ h l leaves b s k. carries.3 h l leaves b (looks.stands b s) (tells (carries.0.honest h) b s k),
 )
 carries_after g Knows Knew floor old mid new (Err (Unopened fault)) looks tells refused = absurd refused
 carries_after g Knows Knew floor old mid new (Err (Unclosed fault)) looks tells refused =
@@ -352,7 +361,7 @@ carries_after g Knows Knew floor old mid new (Err NotAfter) looks tells refused 
   λ h b s k. refused.1 h b (looks.stands b s) (tells (refused.0.honest h) b s k),
 )
 carries_after g Knows Knew floor old mid new (Err (Unfinished fault)) looks tells refused =
-    (refused.0, may_from g Knows Knew old mid new looks tells refused.1)
+    (refused.0, known_from g Knows Knew old mid new (Err fault) looks tells refused.1)
 
 pub storage_fault : (fault : StoreFault) → IsOfStorage fault → IsOpeningFault fault
 storage_fault fault (inl is) = inl is
@@ -457,7 +466,8 @@ unfinished_in g Opens Closes Refuses floor c fault is (opened, found, (left, clo
       is,
       record {
         honest = closes.0.honest;
-        stands = λ h b s k. inr (closes.0.closes h b s k);
+        closed = λ h b s k. tt;
+        kept = λ h b s k. inr (closes.0.closed h b s k);
         crash = closes.0.crash;
       },
     ),
@@ -476,10 +486,6 @@ pub record Laws : Type 0 where
       × (last_gen_time (continued (Some void) b) ≡ Some void.gen_time)
       × (token_of void.serial (continued (Some void) b) ≡ None)
   pub states : StatesVoid
-  pub whole : (void : Option Void) (b : History) → IsSoundInFull b → IsAboveIfAny void b → IsStatedIfAny void b
-      → IsSoundInFull (continued void b)
-  pub rising : (void : Option Void) (b : History) → IsSoundInFull b → IsStatedIfAny void b
-      → Along IsRising (continued void b)
 
 reaches_from : Laws → (floor : Option Floor) (last : Option StampRow) (void : Option Void) (b : History) → IsSound b
     → IsVoidIfAny floor last void → IsAboveIfAny void b → Reaches floor b (continued void b)
@@ -499,7 +505,7 @@ pub continued_in : {B C : Type 0} (g : Ghosts B) (Opens Closes : B → Type 0) (
     → IsClosedIn g Opens Closes floor c → IsMadeIn h Makes ClosesOther (entries_of c)
     → IsContinuedIn g Opens Closes h Makes ClosesOther floor
 continued_in g Opens Closes h Makes ClosesOther floor c laws (opened, found, (left, closes, closed))
-    (made, makes, stands, other) = (
+    (made, makes, stands, is_open, other) = (
       opened,
       found,
       (
@@ -509,11 +515,9 @@ continued_in g Opens Closes h Makes ClosesOther floor c laws (opened, found, (le
           (entries_of c, makes),
           record {
             honest = closes.0.honest;
-            closes = λ o b s. closes.0.closes o b s tt;
-            crash = λ o l leaves. elim (closes.0.crash o l leaves) [
-              | inl before ↦ inl before
-              | inr adds ↦ inr (λ b s. adds b s tt)
-            ];
+            closes = λ o b s. closes.0.closed o b s tt;
+            leaves = λ o l leaves b s. closes.3 o l leaves b s tt;
+            opened = is_open;
             void = void_in c;
             goes_on = λ o b s.
                 let carried = closes.2 o b s tt in
@@ -521,13 +525,12 @@ continued_in g Opens Closes h Makes ClosesOther floor c laws (opened, found, (le
                 let above = above_from floor (option_map stamp_view c.stamp) (void_in c) b s.sound carried.stamp closes.1 in
                 record {
                   asked = subst (λ last. IsVoidIfAny floor last (void_in c)) carried.stamp closes.1;
+                  above = above;
                   stands = subst (λ entries. Stands h (with_all entries []) made) same
                       (stands (rw same (laws.fit (void_in c) b s.sound above)));
                   reaches = reaches_from laws floor (option_map stamp_view c.stamp) (void_in c) b s.sound closes.1 above;
-                  whole = λ whole.
-                      let stated = stated_from floor (option_map stamp_view c.stamp) (void_in c) b laws.states whole
-                      carried.stamp closes.1 in
-                      (laws.whole (void_in c) b whole above stated, laws.rising (void_in c) b whole stated);
+                  stated = λ whole. stated_from floor (option_map stamp_view c.stamp) (void_in c) b laws.states whole
+                      carried.stamp closes.1;
                 };
           },
           other,

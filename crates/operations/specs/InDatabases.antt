@@ -32,12 +32,13 @@ IsDoneIn {B} Opens Closes Does = (opened : B) × Opens opened × ((left : B) × 
 abbrev pub IsUnopenedAs : {E : Type 0} → (StoreFault → E) → (StoreFault → Type 0) → E → Type 0
 IsUnopenedAs as_fault Refuses fault = (refusal : StoreFault) × (fault ≡ as_fault refusal) × Refuses refusal
 
--- one was made with these entries, which stands for their history where they fit in turn, and it was closed as it was
--- made
+-- one was made with these entries, and is open; it stands for their history where they fit in turn, and it was closed as
+-- it was made
 abbrev pub IsMadeIn : {B : Type 0} → Ghosts B → (Makes : List Entry → B → Type 0) → (Closes : B → Type 0) → List Entry
     → Type 0
 IsMadeIn {B} g Makes Closes entries =
-    (made : B) × Makes entries made × (FitInTurn entries [] → Stands g (with_all entries []) made) × Closes made
+    (made : B) × Makes entries made × (FitInTurn entries [] → Stands g (with_all entries []) made)
+    × (g.honest made → g.is_open made) × Closes made
 
 module _ {B : Type 0} (g : Ghosts B) (Opens Closes : B → Type 0) where
   -- this was added to its history

@@ -14,7 +14,7 @@ use Rattle.book.specs.declared.fault.StoreFault.{StoreFault}
 use Rattle.book.specs.declared.standing.Standing.{Ghosts as Book}
 use Rattle.book.specs.History.{Entry, History}
 use Rattle.tables.specs.Base.{BaseValue}
-use Rattle.store.specs.Files.{LeavesFiles, MigratesFound, OpensFound}
+use Rattle.store.specs.Files.{HasClosed, LeavesFiles, MigratesFound, OpensFound}
 use Rattle.store.specs.Stands.{Stands as StandsOver, over_tables}
 use Rattle.desk.specs.CallContract.{DeskValue}
 use Rattle.desk.specs.Command.{Answer, Setting}
@@ -38,12 +38,17 @@ pub record IsReached {X : Type 0} (signs : Signs X) (algorithm : List ℕ) (sign
   pub signs_so : signs.algorithm_octets signer ≡ algorithm
   pub unused : signs.fault_count signer ≡ 0
 
--- a store over files was closed: that was refused, or it left these files, which hold each history that the store stood
--- for, as they read and after any crash
-pub record ClosesFiles {D : Type 0} (disk : Ghosts D) (store : BaseValue (FileStore D disk)) : Type 0 where
-  pub done : Result (Files D) StoreFault
+-- A store over files was closed so: as its connection was. Where that isn't refused it left these files, which hold each
+-- history that the store stood for, as they read and after any crash.
+pub record IsClosedAs {D : Type 0} (disk : Ghosts D) (store : BaseValue (FileStore D disk))
+    (done : Result (Files D) StoreFault) : Type 0 where
+  pub closed : HasClosed store.conn done
   pub copied : IfOk done (λ files. AreClean disk files.log files.db
       → (b : History) → StandsOver over_files b store → LeavesFiles disk b files)
+
+-- it was closed
+abbrev pub ClosesFiles : {D : Type 0} (disk : Ghosts D) → BaseValue (FileStore D disk) → Type 0
+ClosesFiles {D} disk store = (done : Result (Files D) StoreFault) × IsClosedAs disk store done
 
 module _ {D : Type 0} (disk : Ghosts D) where
   -- a store over files was left so, and closed

@@ -1,13 +1,14 @@
 //! How the history of a database goes on in a new one.
-ghost use Rattle.std.specs.Prelude.{◌≡◌, reverse, map, option_map, Err, IfOk, IfErr, IsOk, MatchResult, OnOk};
+ghost use Rattle.std.specs.Prelude.{◌≡◌, ◌⊎◌, reverse, map, option_map, Err, IfOk, IfErr, IsOk, MatchResult, OnOk, Result};
 ghost use Rattle.std.specs.List.{list_any};
-ghost use Rattle.book.specs.Continuation.{holds_all};
+ghost use Rattle.book.specs.Continuation.{closed, holds_all};
 ghost use Rattle.book.specs.Entries.{entries_view};
 ghost use Rattle.book.specs.Fault.{IsOfStorage};
 ghost use Rattle.book.specs.History.{History, holds};
 ghost use Rattle.book.specs.Stands.{OnlyLooks, Stands};
 ghost use Rattle.book.specs.Values.{hold_view, stamp_view};
-ghost use Rattle.operations.specs.Continuation.{Carries, ClosesKnown, HasBegun, IsAskedFor, IsBelow, IsCarried};
+ghost use Rattle.book.specs.declared.fault.StoreFault.{StoreFault as SpecFault};
+ghost use Rattle.operations.specs.Continuation.{Carries, Closes, HasBegun, IsAskedFor, IsBelow, IsCarried};
 ghost use Rattle.operations.specs.Continuation.{IsLookFault, entries_of, last_stamp_of};
 ghost use Rattle.operations.specs.DatabaseFaults.{IsOpeningFault};
 ghost use Rattle.operations.specs.OverFiles.{IsClosedOver, IsContinuedOver, IsLeftOver, IsMadeOver, IsRefusedBy};
@@ -22,7 +23,7 @@ use crate::lifecycle::close_files;
 use crate::open_database::OpenDatabase;
 use crate::void_stamp::{Floor, void_for};
 use book::{Book, Entry, Hold, Stamp, StoreFault, continuations_go_on, identities_tell_who_signed};
-use desk::{continuations_are_sound_in_full, void_stamps_are_stated};
+use desk::void_stamps_are_stated;
 use sqlite::FileStore;
 use sqlite_disk::Disk;
 use std::alloc::Global;
@@ -65,7 +66,6 @@ pub fn continue_in<F: DatabaseFiles, N: DatabaseFiles>(
     continuations_go_on();
     identities_tell_who_signed();
     void_stamps_are_stated();
-    continuations_are_sound_in_full();
     let room = new.files.may_make(new.path);
     let carried = close_at(alloc, old, floor, room)?;
     match make_from(alloc, new, &carried) {
@@ -114,11 +114,12 @@ fn close_and_leave<B: OpenDatabase>(
     room: Result<(), StoreFault>,
 ) -> Result<Carried, ContinuationFault>
     requires { IfErr room IsOpeningFault }
-    ensures { (left : B) × Carries B.Standing (λ b. Unit {0}) floor opened left result × B.closes left }
+    ensures { (left : B) × Carries B.Standing (λ b. Unit {0}) floor opened left result
+        × ((done : Result B.Left SpecFault) × B.closes left done) }
 {
     let mut kept = opened;
     let carried = close_kept(alloc, &mut kept, floor, room);
-    kept.close_database();
+    let _closed = kept.close_database();
     carried
 }
 
@@ -168,6 +169,8 @@ fn look_up<B: Book>(
     floor: Option<Floor>,
 ) -> Result<Carried, ContinuationFault>
     ensures looks { OnlyLooks B.Standing book.old book.new }
+    ensures settled { B.honest book.new → (left : B.Left) → B.leaves book.new left → (b : History)
+        → Stands B.Standing b book.old → OnOk result (B.holds left b) }
     ensures value { B.honest book.new → (b : History) → Stands B.Standing b book.old
         → map hold_view held.items ≡ reverse (holds b) → IfOk result (λ carried. IsCarried carried b) }
     ensures same { IfOk result (λ carried. carried.holds ≡ held) }
@@ -201,8 +204,12 @@ fn last_stamp<B: Book>(book: &mut B) -> Result<Option<Stamp>, StoreFault>
 
 /// Adds a hold of all moments to a book with these holds, unless there is one.
 fn close_for_tokens<B: Book>(book: &mut B, held: &[Hold]) -> Result<(), StoreFault>
-    ensures closes { ClosesKnown B.Standing (λ b. map hold_view held.now ≡ reverse (holds b)) book.old book.new
-        result }
+    ensures closes { Closes B.Standing (λ b. map hold_view held.now ≡ reverse (holds b)) book.old book.new result }
+
+    // Where what a stop could leave before held the history, what it leaves now holds it closed.
+    ensures settled { B.honest book.new → (left : B.Left) → B.leaves book.new left → (b : History)
+        → Stands B.Standing b book.old → map hold_view held.now ≡ reverse (holds b)
+        → (B.leaves book.old left → B.holds left b) → OnOk result (B.holds left (closed b)) }
     ensures refusals { IfErr result IsOfStorage }
 {
     if is_closed(held) {
@@ -225,6 +232,10 @@ fn make_from<N: DatabaseFiles>(
     carried: &Carried,
 ) -> Result<(), StoreFault>
     ensures made { OnOk result (IsMadeOver N.Disk.Disk (entries_of carried.now)) }
+
+    // It is refused for want of memory over the entries, or by the making.
+    ensures refused { IfErr result (λ fault. (fault ≡ StoreFault.Memory)
+        ⊎ N.refuses_making new.entry.files new.entry.path.now fault) }
     ensures refusals { IfErr result IsOpeningFault }
 {
     match carried.entries(alloc) {
@@ -239,9 +250,10 @@ fn make_with<N: DatabaseFiles>(
     entries: &[Entry<'_>],
 ) -> Result<(), StoreFault>
     ensures made { OnOk result (IsMadeOver N.Disk.Disk (entries_view entries.now)) }
+    ensures refused { IfErr result (N.refuses_making new.entry.files new.entry.path.now) }
     ensures refusals { IfErr result IsOpeningFault }
 {
     let made = new.files.make(new.path, entries)?;
-    close_files(made);
+    let _closed = close_files(made);
     Ok(())
 }

@@ -2,6 +2,7 @@
 ghost use Rattle.std.specs.Prelude.{[], ℕ, List, IfErr, IfOk, OnOk};
 ghost use Rattle.sqlite_wal.specs.Recovery.{Image};
 ghost use Rattle.sqlite.specs.Files.{over_files};
+ghost use Rattle.tables.specs.Base.{IsHonest, IsOpen};
 ghost use Rattle.store.specs.Stands.{over_tables};
 ghost use Rattle.book.specs.Entries.{FitInTurn, entries_view, with_all};
 ghost use Rattle.book.specs.Stands.{Stands};
@@ -51,6 +52,7 @@ pub trait DatabaseFiles: Drop {
     ) -> Result<Store<FileStore<Self::Disk>>, StoreFault>
         ensures stands { IfOk result (λ made. FitInTurn (entries_view entries.now) []
             → Stands (over_tables over_files) (with_all (entries_view entries.now) []) made) }
+        ensures opened { IfOk result (λ made. IsHonest over_files made → IsOpen over_files made) }
         ensures refused { IfErr result (refuses_making self path.now) }
         ensures refusals { IfErr result IsOpeningFault };
 

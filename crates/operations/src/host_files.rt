@@ -2,13 +2,13 @@
 ghost use Rattle.std.specs.Prelude.{◌≡◌};
 ghost use Rattle.store.specs.Files.{image_at};
 ghost use Rattle.operations.specs.DatabaseFaults.{IsOpeningFault};
-ghost use Rattle.operations.specs.OverFiles.{ClosesFiles};
+ghost use Rattle.operations.specs.OverFiles.{IsClosedAs};
 
 use crate::database_files::DatabaseFiles;
 use crate::open_database::OpenDatabase;
 use book::{Entry, Hold};
 use sqlite::{FileFrom, FileStore, Start};
-use sqlite_disk::Disk;
+use sqlite_disk::{Disk, Files};
 use store::{Store, StoreFault, may_make_at};
 
 /// The files of one database of this machine, before they are opened.
@@ -64,14 +64,15 @@ impl<F: Start + Drop> DatabaseFiles for HostFiles<'_, F> {
 
 /// A store over files tells what closing it leaves in these.
 impl<D: Disk + Drop> OpenDatabase for Store<FileStore<D>> {
-    ghost closes = { λ closed. ClosesFiles D.Disk closed };
+    type Left = Files<D>;
+
+    ghost closes = { λ closed done. IsClosedAs D.Disk closed done };
 
     fn all_holds(&mut self) -> Result<Vec<Hold>, StoreFault> {
         self.holds()
     }
 
-    fn close_database(self) {
-        // What was committed stays in the log where it can't be copied into the file.
-        let _ = self.close();
+    fn close_database(self) -> Result<Files<D>, StoreFault> {
+        self.close()
     }
 }

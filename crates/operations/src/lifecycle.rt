@@ -1,9 +1,10 @@
 //! The database at a path: how it is made, opened, taken over and closed again.
-ghost use Rattle.std.specs.Prelude.{◌≡◌, [], IfOk, IfErr, OnErr, OnOk};
+ghost use Rattle.std.specs.Prelude.{◌≡◌, [], IfOk, IfErr, OnErr, OnOk, Result};
 ghost use Rattle.sqlite.specs.Files.{over_files};
+ghost use Rattle.book.specs.declared.fault.StoreFault.{StoreFault as SpecFault};
 ghost use Rattle.store.specs.Stands.{over_tables};
 ghost use Rattle.operations.specs.DatabaseFaults.{IsOpeningFault};
-ghost use Rattle.operations.specs.OverFiles.{ClosesFiles, IsDoneOver, IsLeftOver, IsMadeOver, IsMigratedOver};
+ghost use Rattle.operations.specs.OverFiles.{IsClosedAs, IsDoneOver, IsLeftOver, IsMadeOver, IsMigratedOver};
 
 use crate::database::Database;
 use crate::database_files::DatabaseFiles;
@@ -11,7 +12,7 @@ use crate::open_database::OpenDatabase;
 use crate::operation::Operation;
 use book::{Book, StoreFault};
 use sqlite::FileStore;
-use sqlite_disk::Disk;
+use sqlite_disk::{Disk, Files};
 use std::alloc::Global;
 use store::Store;
 
@@ -25,7 +26,7 @@ pub fn init<F: DatabaseFiles>(database: Database<'_, F>) -> Result<(), StoreFaul
     ensures refusals { IfErr result IsOpeningFault }
 {
     let made = database.files.make(database.path, &[])?;
-    close_files(made);
+    let _closed = close_files(made);
     Ok(())
 }
 
@@ -94,16 +95,19 @@ fn perform_and_close<B: OpenDatabase, I, O, T: Operation<I, O>>(
 
     // It is moved in the operation's own words, and what that left is closed.
     ensures moved { (left : B) × T.moves _ B.Standing operation opened left input.old input.new output.old output.new
-        result × B.closes left }
+        result × ((done : Result B.Left SpecFault) × B.closes left done) }
 {
     let (left, answer) = operation.perform(alloc, opened, input, output);
-    left.close_database();
+    // What was committed stays in the log where it can't be copied into the file.
+    let _closed = left.close_database();
     answer
 }
 
-/// Closes a store over files.
-pub(crate) fn close_files<D: Disk + Drop>(store: Store<FileStore<D>>)
-    ensures { ClosesFiles D.Disk store }
+/// Closes a store over files: what came of that.
+pub(crate) fn close_files<D: Disk + Drop>(
+    store: Store<FileStore<D>>,
+) -> Result<Files<D>, StoreFault>
+    ensures { IsClosedAs D.Disk store result }
 {
-    store.close_database();
+    store.close_database()
 }

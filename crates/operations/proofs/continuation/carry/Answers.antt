@@ -1,7 +1,7 @@
-use Rattle.std.proofs.Common.{◌≡◌, ◌∙◌, ap, map, reverse}
+use Rattle.std.proofs.Common.{◌≡◌, ◌∙◌, Err, ap, map, reverse}
 use Rattle.book.specs.History.{holds}
 use Rattle.book.specs.Values.{hold_view}
-use Rattle.operations.proofs.GoingOn.{may_be_closed, may_from, storage_fault}
+use Rattle.operations.proofs.GoingOn.{fails_as, known_from, storage_fault}
 use Rattle.operations.proofs.continuation.carry.Goals as goal
 
 pub returns-in-Err-close_for_tokens-clause-done : goal.returns-in-Err-close_for_tokens-clause-done
@@ -12,8 +12,11 @@ returns-in-Err-close_for_tokens-clause-done g c =
     let held = found.same in
     let same : map hold_view c.as_slice.result.now ≡ map hold_view c.args.held.items = cc in (
       storage_fault refused.refused refused.ensures.refusals,
-      may_from g.B.Standing (λ b. map hold_view c.as_slice.result.now ≡ reverse (holds b)) _ c.args.book.now
-          c.look_up.new.book c.close_for_tokens.new.book found.looks (λ honest b s k. same ∙ k)
-          (may_be_closed g.B.Standing _ c.look_up.new.book c.close_for_tokens.new.book refused.refused
+      known_from g.B.Standing (λ b. map hold_view c.as_slice.result.now ≡ reverse (holds b)) _ c.args.book.now
+          c.look_up.new.book c.close_for_tokens.new.book (Err refused.refused) found.looks (λ honest b s k. same ∙ k)
+          (fails_as g.B.Standing _ c.look_up.new.book c.close_for_tokens.new.book refused.refused
           refused.ensures.closes),
     )
+
+pub returns-in-Ok-clause-done : goal.returns-in-Ok-clause-done
+returns-in-Ok-clause-done g c = ?
