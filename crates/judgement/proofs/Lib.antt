@@ -1,0 +1,4 @@
+mod Rows
+pub mod Clocks
+pub mod Comparisons
+pub mod Judging

@@ -1,0 +1,5 @@
+pub mod Given
+pub mod Judged
+pub mod Readings
+pub mod Search
+pub mod View
