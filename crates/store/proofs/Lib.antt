@@ -1,6 +1,7 @@
 mod Rows
 pub mod Alike
 pub mod Asked
+pub mod AtNumber
 pub mod Between
 pub mod Calls
 pub mod ClosedStores

@@ -1,6 +1,7 @@
 //! The history of what the counter accepted, kept in tables.
 #![tactic(auto)]
 
+mod calibrations;
 mod connection;
 mod cursors;
 mod deposits;

@@ -3,6 +3,7 @@ mod AskLemmas
 mod BaseLemmas
 mod BaseReads
 mod BatchLemmas
+mod CalibrationLookups
 mod CarryLemmas
 mod CellLemmas
 mod ChangeLemmas

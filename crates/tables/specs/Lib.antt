@@ -1,4 +1,5 @@
 pub mod Base
+pub mod Calibrations
 pub mod Changes
 pub mod Creation
 pub mod Faults

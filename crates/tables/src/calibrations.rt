@@ -1,11 +1,12 @@
-//! The table of calibrations: the statement that adds one, inside a transaction, and the look-up.
+//! The table of calibrations: the statement that adds one, inside a transaction, and the look-ups.
 
 ghost use Rattle.std.specs.Prelude.{◌≡◌};
 ghost use Rattle.sqlite.specs.Held.{state};
 ghost use Rattle.book.specs.History.{Calibrated};
 ghost use Rattle.book.specs.Values.{calibration_view};
+ghost use Rattle.tables.specs.Calibrations.{ShowsCalibrated, is_calibration};
 ghost use Rattle.tables.specs.Changes.{applied};
-ghost use Rattle.tables.specs.Found.{IsGreatestAs};
+ghost use Rattle.tables.specs.Found.{IsFoundAs, IsGreatestAs};
 ghost use Rattle.tables.specs.Queries.{LooksUp, ShowsCalibration};
 ghost use Rattle.tables.specs.Transaction.{Carries};
 
@@ -22,6 +23,8 @@ const INSERT_CALIBRATION: &str =
 
 const LATEST_CALIBRATION: &str =
     "SELECT n, reading, offset_us, uncertainty FROM calibration ORDER BY n DESC LIMIT 1";
+
+const CALIBRATION: &str = "SELECT reading, offset_us, uncertainty FROM calibration WHERE n = ?1";
 
 /// Adds a calibration, under the number that comes next.
 pub(crate) fn put_calibration<S: Alter>(
@@ -68,7 +71,36 @@ impl FromRow for LatestCalibration {
     }
 }
 
+impl FromRow for Calibration {
+    ghost use Rattle.std.specs.Prelude.{◌≡◌, pos};
+    ghost use Rattle.sqlite_value.specs.Order.{column};
+    ghost use Rattle.sqlite_value.specs.declared.value.Value.TheVariants.{Int};
+
+    ghost shows = { λ row c. (column row 0 ≡ Int c.reading) × (column row 1 ≡ Int c.offset)
+        × (column row 2 ≡ Int (pos c.uncertainty)) };
+
+    fn from_row(row: &Row) -> Result<Calibration, Error> {
+        let reading = signed(row, 0)?;
+        let offset = signed(row, 1)?;
+        let uncertainty = number(row, 2)?;
+        Ok(Calibration {
+            reading,
+            offset,
+            uncertainty,
+        })
+    }
+}
+
 impl<S: Alter + Drop> Base<S> {
+    /// The calibration with the number.
+    pub fn calibration(&mut self, number: u64) -> Result<Option<Calibration>, TableFault>
+        ensures { LooksUp S.Store (λ t found. IsFoundAs ShowsCalibrated (is_calibration number) t.calibrations found)
+            self.old self.new result }
+    {
+        let number = self.column(number)?;
+        self.first_as(CALIBRATION, &[number])
+    }
+
     /// The calibration with the greatest number.
     pub fn latest_calibration(&mut self) -> Result<Option<LatestCalibration>, TableFault>
         ensures { LooksUp S.Store (λ t c. IsGreatestAs ShowsCalibration (λ row. row.n) t.calibrations c)

@@ -1,0 +1,12 @@
+use Rattle.std.proofs.Common.{◌∙◌, ap, sym, rules, w64, SFits, to_z-of_z}
+use Rattle.sqlite_value.specs.declared.value.Value.TheVariants.{Int}
+use Rattle.tables.proofs.calibrations.CalibrationFromRow.from_row.Goals as goal
+
+pub returns : goal.returns
+returns c =
+    let reading : SFits w64 c.in_ok-reading.reading = search rules in
+    let offset : SFits w64 c.in_ok-offset.offset = search rules in (
+      c.in_ok-reading.ensures ∙ ap Int (sym (to_z-of_z reading)),
+      c.in_ok-offset.ensures ∙ ap Int (sym (to_z-of_z offset)),
+      c.in_ok-uncertainty.ensures.read,
+    )
