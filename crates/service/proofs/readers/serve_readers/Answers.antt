@@ -18,8 +18,8 @@ returns-then-not-own-clause-served g c =
     c.args.desk.now (with_store c.args.desk.now c.is_own.new.store) (account_view c.args.account.now) c.args.number
     c.refuse.result c.is_own.new.store c.in-Ok.own
     (λ honest b stands.
-        c.in-Ok.ensures.value honest b (subst (Stands g.B.Standing b) (sym c.store.ensures.same) stands)
-        ∙ ap (λ name. is_own name c.args.number b) c.as_str-owner.ensures.value)
+    c.in-Ok.ensures.value honest b (subst (Stands g.B.Standing b) (sym c.store.ensures.same) stands)
+    ∙ ap (λ name. is_own name c.args.number b) c.as_str-owner.ensures.value)
     (record { honest = λ h. h; stands = λ b st. st; leaves = λ h left r. r })
     (let found = c.if-not-own.true in cc) c.refuse.ensures
 
@@ -30,8 +30,8 @@ returns-in-None-clause-served g c =
     (with_store (with_store c.args.desk.now c.is_own.new.store) c.readers_text.new.store)
     (account_view c.args.account.now) c.args.number c.out_of_memory-in-None.result c.is_own.new.store c.in-Ok.own
     (λ honest b stands.
-        c.in-Ok.ensures.value honest b (subst (Stands g.B.Standing b) (sym c.store.ensures.same) stands)
-        ∙ ap (λ name. is_own name c.args.number b) c.as_str-owner.ensures.value)
+    c.in-Ok.ensures.value honest b (subst (Stands g.B.Standing b) (sym c.store.ensures.same) stands)
+    ∙ ap (λ name. is_own name c.args.number b) c.as_str-owner.ensures.value)
     (subst (λ store. OnlyLooks g.B.Standing store c.readers_text.new.store) c.store-2.ensures.same
     c.readers_text.ensures.looks)
     (let found = c.if-not-own.false in cc) c.out_of_memory-in-None.ensures
@@ -44,17 +44,17 @@ returns-in-Some-clause-served g c =
     c.args.desk.now (with_store (with_store c.args.desk.now c.is_own.new.store) c.readers_text.new.store)
     (account_view c.args.account.now) number c.succeed.result c.is_own.new.store c.in-Ok.own
     (λ honest b stands.
-        c.in-Ok.ensures.value honest b (subst (Stands g.B.Standing b) (sym c.store.ensures.same) stands)
-        ∙ ap (λ name. is_own name number b) owner)
+    c.in-Ok.ensures.value honest b (subst (Stands g.B.Standing b) (sym c.store.ensures.same) stands)
+    ∙ ap (λ name. is_own name number b) owner)
     (subst (λ store. OnlyLooks g.B.Standing store c.readers_text.new.store) c.store-2.ensures.same
     c.in-Some.ensures.looks)
     (let found = c.if-not-own.false in cc)
     (λ b stands. c.in-Ok.ensures.looks.stands b (subst (Stands g.B.Standing b) (sym c.store.ensures.same) stands))
     c.deref.result.now
     (λ honest b stands own.
-        c.deref.ensures.value
-        ∙ c.in-Some.ensures.value honest b (subst (Stands g.B.Standing b) (sym c.store-2.ensures.same) stands)
-        (ap (λ name. is_own name number b) owner ∙ own)
-        ∙ ap (λ file. readers_text file c.as_str-owner.result.now number b) c.policy-file.ensures
-        ∙ ap (λ name. readers_text c.args.desk.now.setting.file name number b) owner)
+    c.deref.ensures.value
+    ∙ c.in-Some.ensures.value honest b (subst (Stands g.B.Standing b) (sym c.store-2.ensures.same) stands)
+    (ap (λ name. is_own name number b) owner ∙ own)
+    ∙ ap (λ file. readers_text file c.as_str-owner.result.now number b) c.policy-file.ensures
+    ∙ ap (λ name. readers_text c.args.desk.now.setting.file name number b) owner)
     c.succeed.ensures
