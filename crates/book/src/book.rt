@@ -1,5 +1,6 @@
 //! The book: a list of entries is added in one commit, each look-up answers a view of the history.
-ghost use Rattle.std.specs.Prelude.{◌≡◌, ◌↔◌, [], ◌∷◌, ◌+◌, ◌<◌, ◌≤◌, ◌^◌, true, false, map, length, None, option_map};
+ghost use Rattle.std.specs.Prelude.{◌≡◌, ◌↔◌, [], ◌∷◌, ◌+◌, ◌<◌, ◌≤◌, ◌^◌, true, false, map, length, reverse};
+ghost use Rattle.std.specs.Prelude.{None, option_map};
 ghost use Rattle.std.specs.Prelude.{Ok, Err, IfOk, IfErr, IfSome, IsErr, OnOk, IsTrue};
 ghost use Rattle.std.specs.Io.KnownBytes.{Keeps};
 ghost use Rattle.book.specs.Entries.{entries_view, Appends};
@@ -139,6 +140,24 @@ pub trait Book: Standing {
             → IfOk result (IsNextStamp from to b) }
         ensures within { IfOk result (λ found. IfSome found (λ stamp. IsWithin from to stamp.serial)) }
         ensures small { IfOk result (λ found. IfSome found (λ stamp. stamp.serial < 2 ^ 63)) }
+        ensures refusals { IfErr result IsOfStorage }
+        ensures faults { CountsFaults result (Self.fault_count self.old) (Self.fault_count self.new) };
+
+    /// All calibrations, in the order in which they were added.
+    fn calibrations(&mut self) -> Result<Vec<Calibration>, StoreFault>
+        ensures looks { OnlyLooks Self.Standing self.old self.new }
+        ensures opened { Self.honest self.new → OnOk result (Self.is_open self.old) }
+        ensures value { Self.honest self.new → (b : History) → Stands Self.Standing b self.old
+            → IfOk result (λ found. map calibration_view found.items ≡ reverse (calibrations b)) }
+        ensures refusals { IfErr result IsOfStorage }
+        ensures faults { CountsFaults result (Self.fault_count self.old) (Self.fault_count self.new) };
+
+    /// All holds, in the order in which they were added.
+    fn holds(&mut self) -> Result<Vec<Hold>, StoreFault>
+        ensures looks { OnlyLooks Self.Standing self.old self.new }
+        ensures opened { Self.honest self.new → OnOk result (Self.is_open self.old) }
+        ensures value { Self.honest self.new → (b : History) → Stands Self.Standing b self.old
+            → IfOk result (λ found. map hold_view found.items ≡ reverse (holds b)) }
         ensures refusals { IfErr result IsOfStorage }
         ensures faults { CountsFaults result (Self.fault_count self.old) (Self.fault_count self.new) };
 

@@ -1,11 +1,13 @@
 -- From the clauses of the tables to those of a book.
 use Rattle.std.proofs.Common.{◌≡◌, ◌⊎◌, inl, inr, List, [], ◌∷◌, subst, ap, ◌∙◌, sym, refl, Result, Ok, Err, IsErr, IfOk}
+use Rattle.std.proofs.lemmas.Result.{IfOk-weaker}
 use Rattle.sqlite_trees.specs.Tree.{Trees}
 use Rattle.sqlite_trees.specs.declared.store.Store.{Ghosts}
 use Rattle.tables.specs.Tables.{Tables}
 use Rattle.tables.specs.Base.{BaseValue, IsHonest, IsOpen, Keeps, Recovers, IsStored}
 use Rattle.tables.specs.Changes.{applied_all}
-use Rattle.tables.specs.Queries.{OnlyReads}
+use Rattle.tables.specs.Queries.{LooksUp, OnlyReads}
+use Rattle.tables.specs.declared.fault.TableFault.{TableFault}
 use Rattle.book.specs.History.{Entry, History}
 use Rattle.book.specs.declared.fault.StoreFault.{StoreFault}
 use Rattle.book.specs.Entries.{with_all, FitInTurn, LeavesOrAddsAll, Appends}
@@ -61,6 +63,30 @@ pub kept_seen : {S : Type 0} (g : Ghosts S) (seen old : BaseValue S) (b : Histor
     → Stands (over_tables g) b old
     → Keeps g (replayed b) seen
 kept_seen g seen old b e s = subst (λ t. Keeps g t seen) (sym (replayed_is b s.sound)) (kept_now g seen old b e s)
+
+-- what is said of an answer, said otherwise
+pub looks_up_as : {S X : Type 0} (g : Ghosts S) (P Q : Tables → X → Type 0) (old new : BaseValue S)
+    (result : Result X TableFault) → ((t : Tables) (x : X) → P t x → Q t x) → LooksUp g P old new result
+    → LooksUp g Q old new result
+looks_up_as g P Q old new result says looks = record {
+  reads = looks.reads;
+  opened = looks.opened;
+  value = λ honest t kept. IfOk-weaker result _ _ (says t) (looks.value honest t kept);
+  counted = looks.counted;
+  uncounted = looks.uncounted;
+}
+
+-- of what is made of the answer
+pub looks_up_with : {S X Y : Type 0} (g : Ghosts S) (P : Tables → X → Type 0) (Q : Tables → Y → Type 0)
+    (old new : BaseValue S) (x : X) (y : Y) → ((t : Tables) → P t x → Q t y) → LooksUp g P old new (Ok x)
+    → LooksUp g Q old new (Ok y)
+looks_up_with g P Q old new x y says looks = record {
+  reads = looks.reads;
+  opened = looks.opened;
+  value = λ honest t kept. says t (looks.value honest t kept);
+  counted = tt;
+  uncounted = looks.uncounted;
+}
 
 -- a refusal is no answer
 pub no_answer : {A E : Type 0} (r : Result A E) (P : A → Type 0) → IsErr r → IfOk r P

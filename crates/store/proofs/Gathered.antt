@@ -6,7 +6,7 @@ use Rattle.tables.specs.Base.{BaseValue, IsHonest, IsOpen}
 use Rattle.book.specs.History.{History}
 use Rattle.book.specs.Stands.{Stands, OnlyLooks}
 use Rattle.store.specs.Stands.{over_tables}
-use Rattle.store.proofs.Installed.{get_none}
+use Rattle.store.proofs.AtNumber.{get_none}
 use Rattle.store.proofs.Walk.{looks_after}
 
 take_next : {X : Type 0} (xs : List X) (k : ℕ) (x : X) → slice_get xs k ≡ Some x

@@ -1,6 +1,7 @@
 mod Rows
 pub mod Alike
 pub mod Asked
+pub mod AtNumber
 pub mod Between
 pub mod Calls
 pub mod ClosedStores
@@ -11,7 +12,6 @@ pub mod DepositRows
 pub mod Exactly
 pub mod FallingSerials
 pub mod Gathered
-pub mod HeldBy
 pub mod Installed
 pub mod LabelRows
 pub mod Lists

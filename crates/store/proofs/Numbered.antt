@@ -7,7 +7,7 @@ use Rattle.tables.specs.Changes.{greatest_by, next_by}
 use Rattle.tables.specs.Tables.{CalibrationRow, HoldRow}
 use Rattle.tables.specs.Found.{IsGreatestAs}
 use Rattle.tables.specs.Queries.{ShowsCalibration, ShowsNumber, holds_at}
-use Rattle.tables.specs.declared.rows.LatestCalibration.{LatestCalibration}
+use Rattle.tables.specs.declared.rows.NumberedCalibration.{NumberedCalibration}
 use Rattle.book.specs.History.{Calibrated, Held, History}
 use Rattle.book.specs.History.{CalibrationValue, HoldValue, calibrations, holds, latest_calibration, is_held, first_of}
 use Rattle.store.specs.Steps.{calibration_from, count_of}
@@ -67,7 +67,7 @@ holds_are (Held h ∷ b) =
     ∙ ap (λ rows. hold_row h (length (holds b) + 1) ∷ rows) rest
 holds_are (_ ∷ b) = holds_are b
 
-calibration_of_first : (cs : List CalibrationValue) (answer : Option LatestCalibration)
+calibration_of_first : (cs : List CalibrationValue) (answer : Option NumberedCalibration)
     → IsFirstAs ShowsCalibration (numbered calibration_row cs) answer
     → (option_map calibration_from answer ≡ first_of cs) × (count_of (option_map (λ c. c.n) answer) ≡ length cs)
 calibration_of_first [] None first = (refl, refl)
@@ -82,7 +82,7 @@ calibration_of_first (x ∷ cs) (Some c) (row, is, shows) =
     (rw (shows.1, shows.2, shows.3, ← reading, ← offset, ← uncertainty) refl, omega (arith, shows.0, n))
 
 -- the latest calibration, and how many there are
-pub calibration_view_of : (b : History) (answer : Option LatestCalibration)
+pub calibration_view_of : (b : History) (answer : Option NumberedCalibration)
     → IsGreatestAs ShowsCalibration (λ row. row.n) (replayed b).calibrations answer
     → (option_map calibration_from answer ≡ latest_calibration b)
     × (count_of (option_map (λ c. c.n) answer) ≡ length (calibrations b))

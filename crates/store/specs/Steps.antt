@@ -8,7 +8,7 @@ use Rattle.tables.specs.Found.{AreFoundAs}
 use Rattle.tables.specs.Queries.{label_of, label_view, is_owned_by}
 use Rattle.tables.specs.declared.rows.Label.{Label}
 use Rattle.tables.specs.declared.rows.LastStamp.{LastStamp}
-use Rattle.tables.specs.declared.rows.LatestCalibration.{LatestCalibration}
+use Rattle.tables.specs.declared.rows.NumberedCalibration.{NumberedCalibration}
 use Rattle.tables.specs.declared.rows.Origin.{Origin}
 use Rattle.book.specs.declared.rows.Stamp.{Stamp}
 use Rattle.book.specs.History.{CalibrationValue, ReservationValue, History, deposit_at, reservation_at}
@@ -24,7 +24,7 @@ abbrev pub last_from : Option LastStamp → Last
 last_from None = record { serial = 0; gen_time = None }
 last_from (Some stamp) = record { serial = stamp.serial; gen_time = Some stamp.gen_time }
 
-abbrev pub calibration_from : LatestCalibration → CalibrationValue
+abbrev pub calibration_from : NumberedCalibration → CalibrationValue
 calibration_from c = record { reading = c.reading; offset = c.offset; uncertainty = c.uncertainty }
 
 -- how many there are, by the greatest of their numbers

@@ -4,13 +4,12 @@
 mod connection;
 mod cursors;
 mod deposits;
-mod holds;
-mod identities;
 mod labels;
 mod laws;
 mod path;
 mod place;
 mod ranges;
+mod sequence;
 mod store;
 
 pub use book::{

@@ -10,14 +10,14 @@ use crate::cursors::Cursors;
 use crate::deposits::add_listed;
 use crate::ranges::only_within;
 use book::{
-    Book, Calibration, Deposit, Entry, GREATEST_NUMBER, IdentityRow, Last, Listed, Stamp,
+    Book, Calibration, Deposit, Entry, GREATEST_NUMBER, Hold, IdentityRow, Last, Listed, Stamp,
     StampedDeposit, Standing, StoreFault,
 };
 use sqlite::{Alter, Connection};
 use std::alloc::Global;
 use std::io::Write;
 use std::marker::Model;
-use tables::{Base, ColumnNumber, LastStamp, LatestCalibration};
+use tables::{Base, ColumnNumber, LastStamp, NumberedCalibration};
 
 /// The history of what the counter accepted, kept in tables. Entries that are added together are one commit.
 ///
@@ -156,11 +156,15 @@ impl<S: Alter + Drop> Book for Store<S> {
     fn tell_the_same(&self) {}
 
     fn identities(&mut self) -> Result<Vec<IdentityRow>, StoreFault> {
-        let mut identities = Vec::new(self.alloc);
-        while let Some(identity) = self.identity_after(identities.len() as u64)? {
-            identities.push(identity)?;
-        }
-        Ok(identities)
+        self.all()
+    }
+
+    fn calibrations(&mut self) -> Result<Vec<Calibration>, StoreFault> {
+        self.all()
+    }
+
+    fn holds(&mut self) -> Result<Vec<Hold>, StoreFault> {
+        self.all()
     }
 
     fn next_stamp(&mut self, from: u64, to: u64) -> Result<Option<Stamp>, StoreFault> {
@@ -203,10 +207,10 @@ fn last_from(stamp: Option<LastStamp>) -> Last
     }
 }
 
-fn calibration_from(latest: Option<LatestCalibration>) -> Option<Calibration>
-    ensures { calibration_option result ≡ option_map calibration_from latest }
+pub(crate) fn calibration_from(found: Option<NumberedCalibration>) -> Option<Calibration>
+    ensures { calibration_option result ≡ option_map calibration_from found }
 {
-    match latest {
+    match found {
         Some(row) => Some(Calibration {
             reading: row.reading,
             offset: row.offset,
@@ -217,7 +221,7 @@ fn calibration_from(latest: Option<LatestCalibration>) -> Option<Calibration>
 }
 
 /// Calibrations are numbered from 1 on, so the latest one's number is how many there are.
-fn number_of(latest: Option<LatestCalibration>) -> u64
+fn number_of(latest: Option<NumberedCalibration>) -> u64
     ensures { result ≡ count_of (option_map (λ row. row.n) latest) }
 {
     match latest {

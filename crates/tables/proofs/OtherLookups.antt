@@ -12,7 +12,7 @@ use Rattle.tables.specs.Names as name
 use Rattle.tables.specs.Queries.{holds_at}
 use Rattle.tables.specs.Shown.{count_shown, calibration_shown, hold_shown, hold_number_shown, identity_shown}
 use Rattle.tables.specs.Shown.{identity_number_shown}
-use Rattle.tables.specs.Tables.{is_tally_of, is_hold, is_identity}
+use Rattle.tables.specs.Tables.{is_tally_of, is_calibration, is_hold, is_identity}
 use Rattle.tables.proofs.LookupLemmas.{Asks, Finds, FindsGreatest, finds, greatest, and_true, one, falling}
 use Rattle.tables.proofs.ReadLemmas.{program_of, no_limit}
 use Rattle.tables.proofs.SealLemmas.{equals}
@@ -35,7 +35,7 @@ finds_tally account day =
     count_shown (λ y. ap₂ ◌&&◌ (test_text y.1.account account) (and_true _ ∙ test_number y.1.day day)) (λ y. refl)
     tally_sql _ asks_tally
 
--- ---- the latest calibration
+-- ---- the latest calibration, and one by its number
 
 abbrev latest_calibration_sql : List ℕ
 latest_calibration_sql = codes "SELECT n, reading, offset_us, uncertainty FROM calibration ORDER BY n DESC LIMIT 1"
@@ -51,6 +51,21 @@ pub finds_latest_calibration :
 finds_latest_calibration =
     greatest name.Calibration [] [] _ (λ x. true) calibration_shown (λ y. refl) (λ y. refl) (col 1 0) (λ x. x.n)
     (λ y. refl) latest_calibration_sql _ (λ x. refl) asks_latest_calibration
+
+abbrev calibration_sql : List ℕ
+calibration_sql = codes "SELECT n, reading, offset_us, uncertainty FROM calibration WHERE n = ?1"
+
+pub asks_calibration : Asks calibration_sql
+    (Select (program_of 2 (equals 0 0 ∷ []) (col 1 0 ∷ col 1 2 ∷ col 1 3 ∷ col 1 4 ∷ []) [] no_limit)
+    (codes "n" ∷ codes "reading" ∷ codes "offset_us" ∷ codes "uncertainty" ∷ []))
+unfolding understood everything
+asks_calibration = record { is = refl; text = record { plain = (refl, refl); unlisted = refl } }
+
+pub finds_calibration : (number : ℕ)
+    → Finds calibration_sql (Int (pos number) ∷ []) (λ t. t.calibrations) calibration_shown (is_calibration number)
+finds_calibration number =
+    finds name.Calibration (Int (pos number) ∷ []) (equals 0 0 ∷ []) _ (is_calibration number) calibration_shown
+    (λ y. and_true _ ∙ test_number y.1.n number) (λ y. refl) calibration_sql _ asks_calibration
 
 -- ---- the greatest hold, one by its number, and one of a moment
 

@@ -14,7 +14,7 @@ use Rattle.tables.specs.Tables.{InstalledRow}
 use Rattle.tables.specs.Base.{BaseValue, IsHonest, IsOpen, Keeps, Recovers}
 use Rattle.tables.specs.declared.fault.TableFault.{TableFault}
 use Rattle.tables.specs.declared.rows.LastStamp.{LastStamp}
-use Rattle.tables.specs.declared.rows.LatestCalibration.{LatestCalibration}
+use Rattle.tables.specs.declared.rows.NumberedCalibration.{NumberedCalibration}
 use Rattle.book.specs.declared.rows.Stamp.{Stamp}
 use Rattle.book.specs.declared.rows.Deposit.{Deposit}
 use Rattle.book.specs.declared.rows.IdentityRow.{IdentityRow}
@@ -56,7 +56,7 @@ TellsAllAs Shows sql params t found = (rows : List Row) × TellsAll sql params t
 abbrev pub ShowsLast : StampRow → LastStamp → Type 0
 ShowsLast row last = last ≡ record { serial = row.serial; gen_time = row.gen_time }
 
-abbrev pub ShowsCalibration : CalibrationRow → LatestCalibration → Type 0
+abbrev pub ShowsCalibration : CalibrationRow → NumberedCalibration → Type 0
 ShowsCalibration row c = (c.n ≡ row.n) × (c.reading ≡ row.reading) × (c.offset ≡ row.offset)
     × (c.uncertainty ≡ row.uncertainty)
 

@@ -70,6 +70,9 @@ is_reader_row serial name row = (row.serial == serial) && bytes_eq row.name name
 abbrev pub is_deposit : ℕ → DepositRow → Bool
 is_deposit serial row = row.serial == serial
 
+abbrev pub is_calibration : ℕ → CalibrationRow → Bool
+is_calibration number row = row.n == number
+
 abbrev pub is_hold : ℕ → HoldRow → Bool
 is_hold number row = row.n == number
 

@@ -1,18 +1,19 @@
-//! The table of calibrations: the statement that adds one, inside a transaction, and the look-up.
+//! The table of calibrations: the statement that adds one, inside a transaction, and the look-ups.
 
 ghost use Rattle.std.specs.Prelude.{◌≡◌};
 ghost use Rattle.sqlite.specs.Held.{state};
 ghost use Rattle.book.specs.History.{Calibrated};
 ghost use Rattle.book.specs.Values.{calibration_view};
 ghost use Rattle.tables.specs.Changes.{applied};
-ghost use Rattle.tables.specs.Found.{IsGreatestAs};
+ghost use Rattle.tables.specs.Found.{IsFoundAs, IsGreatestAs};
 ghost use Rattle.tables.specs.Queries.{LooksUp, ShowsCalibration};
+ghost use Rattle.tables.specs.Tables.{is_calibration};
 ghost use Rattle.tables.specs.Transaction.{Carries};
 
 use crate::base::Base;
 use crate::fault::TableFault;
 use crate::queries::{FromRow, number, number_in, signed};
-use crate::rows::{LatestCalibration, column};
+use crate::rows::{NumberedCalibration, column};
 use book::Calibration;
 use sqlite::types::ToSql;
 use sqlite::{Alter, Error, Row, Transaction};
@@ -22,6 +23,8 @@ const INSERT_CALIBRATION: &str =
 
 const LATEST_CALIBRATION: &str =
     "SELECT n, reading, offset_us, uncertainty FROM calibration ORDER BY n DESC LIMIT 1";
+
+const CALIBRATION: &str = "SELECT n, reading, offset_us, uncertainty FROM calibration WHERE n = ?1";
 
 /// Adds a calibration, under the number that comes next.
 pub(crate) fn put_calibration<S: Alter>(
@@ -46,7 +49,7 @@ pub(crate) fn put_calibration<S: Alter>(
     )
 }
 
-impl FromRow for LatestCalibration {
+impl FromRow for NumberedCalibration {
     ghost use Rattle.std.specs.Prelude.{◌≡◌, pos};
     ghost use Rattle.sqlite_value.specs.Order.{column};
     ghost use Rattle.sqlite_value.specs.declared.value.Value.TheVariants.{Int};
@@ -54,12 +57,12 @@ impl FromRow for LatestCalibration {
     ghost shows = { λ row c. (column row 0 ≡ Int (pos c.n)) × (column row 1 ≡ Int c.reading)
         × (column row 2 ≡ Int c.offset) × (column row 3 ≡ Int (pos c.uncertainty)) };
 
-    fn from_row(row: &Row) -> Result<LatestCalibration, Error> {
+    fn from_row(row: &Row) -> Result<NumberedCalibration, Error> {
         let n = number(row, 0)?;
         let reading = signed(row, 1)?;
         let offset = signed(row, 2)?;
         let uncertainty = number(row, 3)?;
-        Ok(LatestCalibration {
+        Ok(NumberedCalibration {
             n,
             reading,
             offset,
@@ -69,8 +72,17 @@ impl FromRow for LatestCalibration {
 }
 
 impl<S: Alter + Drop> Base<S> {
+    /// The calibration with the number.
+    pub fn calibration(&mut self, number: u64) -> Result<Option<NumberedCalibration>, TableFault>
+        ensures { LooksUp S.Store (λ t c. IsFoundAs ShowsCalibration (is_calibration number) t.calibrations c)
+            self.old self.new result }
+    {
+        let number = self.column(number)?;
+        self.first_as(CALIBRATION, &[number])
+    }
+
     /// The calibration with the greatest number.
-    pub fn latest_calibration(&mut self) -> Result<Option<LatestCalibration>, TableFault>
+    pub fn latest_calibration(&mut self) -> Result<Option<NumberedCalibration>, TableFault>
         ensures { LooksUp S.Store (λ t c. IsGreatestAs ShowsCalibration (λ row. row.n) t.calibrations c)
             self.old self.new result }
     {

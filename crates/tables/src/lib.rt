@@ -24,5 +24,5 @@ pub use book::{Deposit, IdentityRow, Stamp};
 pub use fault::{OpenFault, TableFault, Task};
 pub use laws::{earlier_tables_are_found, stored_tables_are_found};
 pub use migration::migrate;
-pub use rows::{ColumnNumber, Label, LastStamp, LatestCalibration, Origin};
+pub use rows::{ColumnNumber, Label, LastStamp, NumberedCalibration, Origin};
 pub use version::Version;

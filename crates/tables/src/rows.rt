@@ -51,9 +51,9 @@ pub struct LastStamp {
     pub gen_time: u64,
 }
 
-/// The calibration with the greatest number.
+/// A calibration, and its number.
 #[derive(Clone, Copy, Debug)]
-pub struct LatestCalibration {
+pub struct NumberedCalibration {
     pub n: u64,
     pub reading: i64,
     pub offset: i64,

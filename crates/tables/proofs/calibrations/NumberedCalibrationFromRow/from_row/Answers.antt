@@ -1,6 +1,6 @@
 use Rattle.std.proofs.Common.{◌∙◌, ap, sym, rules, w64, SFits, to_z-of_z}
 use Rattle.sqlite_value.specs.declared.value.Value.TheVariants.{Int}
-use Rattle.tables.proofs.calibrations.LatestCalibrationFromRow.from_row.Goals as goal
+use Rattle.tables.proofs.calibrations.NumberedCalibrationFromRow.from_row.Goals as goal
 
 pub returns : goal.returns
 returns c =

@@ -1,6 +1,6 @@
+use Rattle.std.proofs.Common.{refl}
 use Rattle.store.proofs.Calls.{looks_now, kept_seen}
-use Rattle.store.proofs.HeldBy.{hold_at}
-use Rattle.store.proofs.store.Store.hold_after.Goals as goal
+use Rattle.store.proofs.store.Store.after.Goals as goal
 
 pub returns-in_err-found-clause-looks : goal.returns-in_err-found-clause-looks
 returns-in_err-found-clause-looks g c = looks_now g.S.Store _ _ _ c.self.view_is c.in_err-found.ensures.reads
@@ -10,5 +10,4 @@ returns-clause-looks g c = looks_now g.S.Store _ _ _ c.self.view_is c.in_ok-foun
 
 pub returns-clause-value : goal.returns-clause-value
 returns-clause-value g c honest b s =
-    hold_at b c.args.count _
-    (c.in_ok-found.ensures.value honest _ (kept_seen g.S.Store _ _ b c.self.view_is s))
+    c.in_ok-found.ensures.value honest _ (kept_seen g.S.Store _ _ b c.self.view_is s) b s.sound refl
