@@ -25,7 +25,7 @@ use Rattle.desk.specs.declared.fault.Fault.TheVariants as fault
 use Rattle.desk.specs.declared.obstacle.Obstacle.{Obstacle}
 use Rattle.desk.specs.declared.obstacle.Obstacle.TheVariants as obstacle
 use Rattle.desk.proofs.Fits.{none_failed}
-use Rattle.desk.proofs.Endings.{one_in_doubt}
+use Rattle.desk.proofs.Beginnings.{one_in_doubt}
 
 -- what a command does that enters one entry, unless the history turns it back
 abbrev pub entering : Entry → ℕ → Option Cause → Bool → Effect

@@ -84,8 +84,8 @@ last_apart xs x is =
 -- what a look finds where some wait
 pub looked_last : (reading : ℤ) (ws : List Waiting) (w : Waiting) (b : History) (looked : Looked)
     → slice_get ws (length ws - 1) ≡ Some w → looked ≡ looked_at reading b → IsSound (with_waiting ws b)
-    → looked_by reading looked.clock.calibration looked.clock.held (Some (moment_or_last w.prepared.gen_time))
-    w.prepared.serial ≡ looked_at reading (with_waiting ws b)
+    → looked_by reading looked.clock.calibration looked.clock.held (Some (moment_or_last w.gen_time))
+    w.unsigned.serial ≡ looked_at reading (with_waiting ws b)
 looked_last reading ws w b looked last is sound =
     let before = map waiting_view (take (length ws - 1) ws) in
     let apart : with_waiting ws b ≡ Reserved (waiting_view w) ∷ with_reserved before b =

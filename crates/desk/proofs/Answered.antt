@@ -1,10 +1,11 @@
 -- Stamps that are answered together are a run of the machine, and what a stop after them may leave.
-use Rattle.std.proofs.Common.{◌≡◌, ◌⊎◌, ℕ, List, [], ◌∷◌, ◌++◌, map, Option, Some, None, Result, refl, sym, ap}
+use Rattle.std.proofs.Common.{◌≡◌, ◌⊎◌, ℕ, List, [], ◌∷◌, ◌++◌, map, Option, Some, None, Result, Ok, refl, sym, ap}
 use Rattle.std.proofs.Common.{◌∙◌, subst, inl, inr, append_assoc}
 use Rattle.std.specs.List.{AllByRecursion}
 use Rattle.policy.specs.Record.{PolicyValue}
 use Rattle.tsp.specs.Rules.{IsFirstFailing}
 use Rattle.tsp.specs.declared.rule.Rule.{Rule}
+use Rattle.tsp.specs.declared.rule.Rule.TheVariants.{System}
 use Rattle.cms.specs.Signer.{count_after_each, SignsEach}
 use Rattle.cms.specs.declared.signer.SignerFault.{SignerFault}
 use Rattle.book.specs.declared.standing.Standing.{Ghosts}
@@ -12,9 +13,9 @@ use Rattle.book.specs.Entries.{with_all, FitInTurn}
 use Rattle.book.specs.History.{Entry, Reserved, History}
 use Rattle.book.specs.Shows.{ShowsSame}
 use Rattle.book.specs.Sound.{IsSound}
-use Rattle.book.specs.Stands.{Stands}
+use Rattle.book.specs.Stands.{OnlyLooks, Stands}
 use Rattle.desk.specs.Batches.{Question, SealValue, stamp_for, stamps_for, seal_entry, with_reserved, with_sealed}
-use Rattle.desk.specs.Batches.{all_reserved, batch_of, after_batch, faults_along}
+use Rattle.desk.specs.Batches.{HaveEffects, all_reserved, batch_of, after_batch, faults_along}
 use Rattle.desk.specs.Command.{Setting, Answer}
 use Rattle.desk.specs.Commits.{IsCommitted, untried, added, refused}
 use Rattle.desk.specs.Completions.{Completion, seals_of, texts_of, AreWaiting, AreWritten}
@@ -22,9 +23,12 @@ use Rattle.desk.specs.Findings.{HoldsUnasked}
 use Rattle.desk.specs.MachineRuns.{Runs, after}
 use Rattle.desk.specs.Outcome.{Call, Fine, OutOfMemory, Failed, Outcome, counted, faults_after}
 use Rattle.desk.specs.RunContract.{ArePromised}
-use Rattle.desk.specs.Together.{Verdict, Settled, Waits, JudgedStamp, rule_of, rules_of, all_looks, waits_of}
-use Rattle.desk.specs.Together.{AreJudged, IsJudgedRightly, JudgesEach, merged, reply_for, IsToldBy, AreSignedAlike}
-use Rattle.desk.specs.Together.{IsDoubtedTogether, MayBeLeftTogether, AreRejectedUnasked, IsAnsweredTogether}
+use Rattle.desk.specs.Sent.{texts_for, SendsReserved}
+use Rattle.desk.specs.Verdicts.{Verdict, Settled, Waits, JudgedStamp, rule_of, rules_of, all_looks, waits_of}
+use Rattle.desk.specs.Verdicts.{AreJudged, IsJudgedRightly, JudgesEach, merged, met_by, reply_for, IsToldBy}
+use Rattle.desk.specs.Together.{AreRejections, AreSignedAlike, IsDoubtedTogether, MayBeLeftTogether}
+use Rattle.desk.specs.Verdicts.{waiting_before}
+use Rattle.desk.specs.Together.{FailsUnasked, AreRejectedUnasked, IsAnsweredTogether}
 use Rattle.desk.specs.WaitingStamps.{waiting_view, pendings_in, with_waiting}
 use Rattle.desk.specs.declared.waiting_stamp.Waiting.{Waiting}
 use Rattle.desk.proofs.Assembly.{questions_of, signings_of, replies_of, AreOf, outcomes_of, effects_of}
@@ -62,24 +66,61 @@ promised_along signs laws s (a ∷ asked) (o ∷ os) b x (answer ∷ answers) la
 
 -- what is judged by the rules 1 to 9 is answered so
 rejected_step : (file : PolicyValue) (a : Question) (v : Option Rule) (vs : List (Option Rule))
-    (completions : List Answer) (asked : List Question)
-    → ((rule : Rule) → IsFirstFailing (HoldsUnasked file a.account a.octets) rule → v ≡ Some rule)
-    → ((rest : List Answer) → AreRejectedUnasked file asked (merged vs rest))
-    → AreRejectedUnasked file (a ∷ asked) (merged (v ∷ vs) completions)
-rejected_step file a (Some r) vs completions asked h rest =
-    (λ rule first. ap (λ v. reply_for v None) (h rule first), rest completions)
-rejected_step file a None vs (answer ∷ completions) asked h rest =
-    (λ rule first. absurd (let none : None ≡ Some rule = h rule first in cc), rest completions)
-rejected_step file a None vs [] asked h rest =
-    (λ rule first. absurd (let none : None ≡ Some rule = h rule first in cc), rest [])
+    (completions : List Answer) (asked : List Question) (o : Outcome) (os : List Outcome)
+    → ((rule : Rule) → IsFirstFailing (HoldsUnasked file a.account a.octets) rule
+    → (v ≡ Some rule) × (o.signing ≡ Ok []))
+    → ((rest : List Answer) → AreRejectedUnasked file asked (merged vs rest) os)
+    → AreRejectedUnasked file (a ∷ asked) (merged (v ∷ vs) completions) (o ∷ os)
+rejected_step file a (Some r) vs completions asked o os h rest = (
+  λ rule first. (ap (λ v. reply_for v None) (h rule first).0, (h rule first).1),
+  rest completions,
+)
+rejected_step file a None vs (answer ∷ completions) asked o os h rest =
+    (λ rule first. absurd (let none : None ≡ Some rule = (h rule first).0 in cc), rest completions)
+rejected_step file a None vs [] asked o os h rest =
+    (λ rule first. absurd (let none : None ≡ Some rule = (h rule first).0 in cc), rest [])
 
-rejected_unasked : (s : Setting) (js : List JudgedStamp) (completions : List Answer)
-    → AllByRecursion (IsJudgedRightly s) js
-    → AreRejectedUnasked s.file (questions_of js) (merged (rules_of js) completions)
-rejected_unasked s [] completions h = tt
-rejected_unasked s (j ∷ js) completions h =
-    rejected_step s.file j.question (rule_of j.verdict) (rules_of js) completions (questions_of js) h.0.unasked
-    (λ rest. rejected_unasked s js rest h.1)
+-- nothing is signed for what fails a rule
+unsigned_by : (sealing : Call) (v : Verdict) (zs : List Completion) (rule : Rule) → rule_of v ≡ Some rule
+    → (met_by v).signing ≡ Ok [] → (outcome_in sealing v zs).signing ≡ Ok []
+unsigned_by sealing (Settled why o) zs rule is none = none
+unsigned_by sealing (Waits w) zs rule is none = absurd (let waits : None ≡ Some rule = is in cc)
+
+rejected_unasked : (s : Setting) (sealing : Call) (js : List JudgedStamp) (zs : List Completion)
+    (completions : List Answer) → AllByRecursion (IsJudgedRightly s) js
+    → AreRejectedUnasked s.file (questions_of js) (merged (rules_of js) completions) (outcomes_of sealing js zs)
+rejected_unasked s sealing [] zs completions h = tt
+rejected_unasked s sealing (j ∷ js) zs completions h =
+    rejected_step s.file j.question (rule_of j.verdict) (rules_of js) completions (questions_of js)
+    (outcome_in sealing j.verdict zs) (outcomes_of sealing js (behind j.verdict zs))
+    (λ rule first.
+    (h.0.unasked rule first, unsigned_by sealing j.verdict zs rule (h.0.unasked rule first) h.0.unsigned))
+    (λ rest. rejected_unasked s sealing js (behind j.verdict zs) rest h.1)
+
+-- where each fails one of them, none waits
+none_before : (v : Verdict) (ws : List Waiting) (rule : Rule) → rule_of v ≡ Some rule → ws ≡ []
+    → waiting_before v ws ≡ []
+none_before (Settled why o) ws rule is none = none
+none_before (Waits w) ws rule is none = absurd (let waits : None ≡ Some rule = is in cc)
+
+none_awaited : (s : Setting) (js : List JudgedStamp) → AllByRecursion (IsJudgedRightly s) js
+    → AllByRecursion (FailsUnasked s.file) (questions_of js) → waits_of js ≡ []
+none_awaited s [] rightly fails = refl
+none_awaited s (j ∷ js) rightly fails =
+    none_before j.verdict (waits_of js) fails.0.0 (rightly.0.unasked fails.0.0 fails.0.1)
+    (none_awaited s js rightly.1 fails.1)
+
+-- where a commit was refused, each is rejected
+all_rejected : (vs : List (Option Rule)) → AreRejections (merged vs [])
+all_rejected [] = tt
+all_rejected (Some rule ∷ vs) = ((rule, refl), all_rejected vs)
+all_rejected (None ∷ vs) = ((System, refl), all_rejected vs)
+
+none_told : (sealing : Call) (told completions : List Answer) → IsToldBy sealing told completions
+    → (sealing ≡ Fine → ⊥) → completions ≡ []
+none_told Fine told completions by refusal = absurd (refusal refl)
+none_told OutOfMemory told completions by refusal = by
+none_told Failed told completions by refusal = by
 
 -- entries that are added stand in front of what was there
 record AreInFront (entries : List Entry) (b : History) : Type 0 where
@@ -136,7 +177,7 @@ all_both P [] ys one other = other
 all_both P (x ∷ xs) ys one other = (one.0, all_both P xs ys one.1 other)
 
 -- where nothing is left of a list, there was nothing in it
-map_none : {X Y : Type 0} (f : X → Y) (xs : List X) → map f xs ≡ [] → xs ≡ []
+pub map_none : {X Y : Type 0} (f : X → Y) (xs : List X) → map f xs ≡ [] → xs ≡ []
 map_none f [] none = refl
 map_none f (x ∷ xs) none = absurd cc
 
@@ -153,7 +194,7 @@ none_waits (j ∷ js) none = absurd cc
 -- nothing is signed otherwise
 signed_one : (v : Verdict) (zs : List Completion) (one other : Call)
     → (outcome_in other v zs).signing ≡ (outcome_in one v zs).signing
-signed_one (Settled rule o) zs one other = refl
+signed_one (Settled why o) zs one other = refl
 signed_one (Waits w) zs one other = refl
 
 signed_alike : (js : List JudgedStamp) (zs : List Completion) (one other : Call)
@@ -224,18 +265,18 @@ module _ {B S : Type 0} (g : Ghosts B) (signs : S → List ℕ → Result (List 
       ]
 
   -- The commit of all tokens was refused: what is in doubt is the history with them, or without.
-  doubtful : (sealing tried : Call) (js : List JudgedStamp) (zs : List Completion) (b last : History) (left : g.Left)
-      → IsSound b → AreJudged s js b → AreOf s js zs → (questions_of js ≡ [] → ⊥) → (sealing ≡ Fine → ⊥)
-      → ShowsSame (with_waiting (waits_of js) b) last → g.holds left (ends_in tried js zs b)
-      → IsDoubtedTogether g s (questions_of js) (outcomes_of sealing js zs) Fine sealing b last left
-  doubtful sealing tried js zs b last left sound judged of some refusal same holds =
+  doubtful : (sealing tried : Call) (js : List JudgedStamp) (zs : List Completion) (answers : List Answer)
+      (b last : History) (left : g.Left) → IsSound b → AreJudged s js b → AreOf s js zs → (questions_of js ≡ [] → ⊥)
+      → AreRejections answers → ShowsSame (with_waiting (waits_of js) b) last → g.holds left (ends_in tried js zs b)
+      → IsDoubtedTogether g s (questions_of js) (outcomes_of sealing js zs) answers b last left
+  doubtful sealing tried js zs answers b last left sound judged of some rejected same holds =
       let d = with_waiting (waits_of js) b in
       let entries = map seal_entry (seals_of tried zs) in
       let front = are_in_front entries last in
       let es = effects_of s tried js zs in
       let outcomes = outcomes_of tried js zs in
       record {
-        refused = λ reserving fine. refusal fine;
+        refused = rejected;
         history = ends_in tried js zs b;
         doubted = front.adds;
         same = subst (ShowsSame (ends_in tried js zs b)) front.is (shows_over shows entries d last same);
@@ -254,6 +295,13 @@ module _ {B S : Type 0} (g : Ghosts B) (signs : S → List ℕ → Result (List 
         holds = holds;
       }
 
+  -- a commit of nothing
+  none_committed : (entries : List Entry) (old new : B) (call : Call) → entries ≡ []
+      → IsCommitted g entries old new call → (call ≡ Fine) × (new ≡ old)
+  none_committed entries old new call none (untried is fine same) = (fine, same)
+  none_committed entries old new call none (added some fine a) = absurd (some none)
+  none_committed entries old new call none (refused some fault is storage a) = absurd (some none)
+
   -- where something was reserved, the store is open
   held_open : (ws : List Waiting) (mid held : B) → IsCommitted g (map Reserved (map waiting_view ws)) mid held Fine
       → g.honest held → ((ws ≡ []) × (held ≡ mid)) ⊎ g.is_open held
@@ -263,15 +311,16 @@ module _ {B S : Type 0} (g : Ghosts B) (signs : S → List ℕ → Result (List 
   held_open ws mid held (refused some fault is storage a) honest = absurd (is_refused fault storage (sym is))
 
   -- what a stop after both commits may leave
-  left_after : (sealing : Call) (js : List JudgedStamp) (zs : List Completion) (vs : List SealValue) (b last : History)
-      (old mid held new : B) (left : g.Left) → IsSound b → AreJudged s js b → AreOf s js zs → vs ≡ seals_of Fine zs
+  left_after : (sealing : Call) (js : List JudgedStamp) (zs : List Completion) (vs : List SealValue)
+      (answers : List Answer) (b last : History) (old mid held new : B) (left : g.Left) → IsSound b → AreJudged s js b
+      → AreOf s js zs → vs ≡ seals_of Fine zs → ((sealing ≡ Fine → ⊥) → AreRejections answers)
       → IsCommitted g (map Reserved (map waiting_view (waits_of js))) mid held Fine
       → IsCommitted g (map seal_entry vs) held new sealing → g.honest new → (g.leaves mid left → g.leaves old left)
       → (waits_of js ≡ [] → last ≡ b) → Stands g (with_waiting (waits_of js) b) held → Stands g last new
       → ShowsSame (ends_in sealing js zs b) last → g.leaves new left
-      → MayBeLeftTogether g s (questions_of js) (outcomes_of sealing js zs) Fine sealing b old last left
-  left_after sealing js zs vs b last old mid held new left sound judged of are reserving (untried none fine same) honest
-      before still middle end shown r =
+      → MayBeLeftTogether g s (questions_of js) (outcomes_of sealing js zs) answers b old last left
+  left_after sealing js zs vs answers b last old mid held new left sound judged of are rejected reserving
+      (untried none fine same) honest before still middle end shown r =
       elim (held_open (waits_of js) mid held reserving (subst g.honest same honest)) [
         | inl nothing ↦ inl (
           still nothing.0,
@@ -279,9 +328,10 @@ module _ {B S : Type 0} (g : Ghosts B) (signs : S → List ℕ → Result (List 
         )
         | inr open_held ↦ inr (inl (end.settled honest (subst g.is_open (sym same) open_held) left r))
       ]
-  left_after sealing js zs vs b last old mid held new left sound judged of are reserving (added some fine a) honest
-      before still middle end shown r = inr (inl (end.settled honest (a.opened honest).1 left r))
-  left_after sealing js zs vs b last old mid held new left sound judged of are reserving
+  left_after sealing js zs vs answers b last old mid held new left sound judged of are rejected reserving
+      (added some fine a) honest before still middle end shown r =
+      inr (inl (end.settled honest (a.opened honest).1 left r))
+  left_after sealing js zs vs answers b last old mid held new left sound judged of are rejected reserving
       (refused some fault is storage a) honest before still middle end shown r =
       let d = with_waiting (waits_of js) b in
       let refusal : sealing ≡ Fine → ⊥ = λ fine. is_refused fault storage (sym is ∙ fine) in
@@ -290,7 +340,7 @@ module _ {B S : Type 0} (g : Ghosts B) (signs : S → List ℕ → Result (List 
       some (ap (map seal_entry) (are ∙ ap (seals_of Fine) (none_asked s js zs of nobody).1)) in
       let same = subst (λ xs. ShowsSame (with_sealed xs d) last) none shown in
       let doubt = λ (tried : Call) (holds : g.holds left (ends_in tried js zs b)).
-      doubtful sealing tried js zs b last left sound judged of asked refusal same holds in
+      doubtful sealing tried js zs answers b last left sound judged of asked (rejected refusal) same holds in
       elim (a.crash honest left r) [
         | inl earlier ↦ elim (held_open (waits_of js) mid held reserving (a.honest honest)) [
           | inl nothing ↦ inl (still nothing.0, before (subst (λ x. g.leaves x left) nothing.1 earlier))
@@ -329,8 +379,20 @@ module _ {B S : Type 0} (g : Ghosts B) (signs : S → List ℕ → Result (List 
             ∙ ap (counted sealing)
             (commit_counted g (map Reserved (map waiting_view (waits_of js))) mid held Fine reserving ∙ counts);
         signer = signer ∙ signers_counted s sealing js zs (count x) of rightly;
-        judged = subst (AreRejectedUnasked s.file (questions_of js)) (sym says)
-            (rejected_unasked s js completions rightly);
+        judged = subst (λ xs. AreRejectedUnasked s.file (questions_of js) xs outcomes) (sym says)
+            (rejected_unasked s sealing js zs completions rightly);
+        unasked = λ fails.
+            let none = none_awaited s js rightly fails in
+            let texts = λ (ws : List Waiting). texts_of (pendings_in s ws) in
+            let nothing : zs ≡ [] = map_none (λ z. z.pending) zs (of ∙ ap (pendings_in s) none) in
+            let kept = (none_committed (map Reserved (map waiting_view (waits_of js))) mid held Fine
+            (ap (λ ws. map Reserved (map waiting_view ws)) none) reserving).1 in
+            let sealed_none = (none_committed (map seal_entry vs) held new sealing
+            (ap (map seal_entry) (are ∙ ap (seals_of Fine) nothing)) sealed).1 in (
+              subst (OnlyLooks g old) (sym (sealed_none ∙ kept)) judges.looks,
+              subst (λ ws. SignsEach signs x (texts ws) [] y) none
+                  (subst (λ zs. SignsEach signs x (texts (waits_of js)) (signings_of zs) y) nothing signed),
+            );
         run = λ honest b stands.
             let honest_held = commit_honest g (map seal_entry vs) held new sealing sealed honest in
             let honest_mid = commit_honest g (map Reserved (map waiting_view (waits_of js))) mid held Fine reserving
@@ -354,8 +416,10 @@ module _ {B S : Type 0} (g : Ghosts B) (signs : S → List ℕ → Result (List 
               history = run.history;
               runs = runs;
               stands = end;
-              left = λ left r. left_after sealing js zs vs b run.history old mid held new left stands.sound are_judged of
-                  are reserving sealed honest (judges.looks.leaves honest_mid left)
+              left = λ left r. left_after sealing js zs vs answers b run.history old mid held new left stands.sound
+                  are_judged of are (λ refusal. subst AreRejections
+                  (sym (says ∙ ap (merged (rules_of js)) (none_told sealing told completions by refusal)))
+                  (all_rejected (rules_of js))) reserving sealed honest (judges.looks.leaves honest_mid left)
                   (λ none. run.still (reserves_all s sealing js zs ∙ ap (map waiting_view) none)) middle end shown r;
               promises = promised_along signs laws s (questions_of js) outcomes b x answers run.history y stands.sound
                   runs;
@@ -395,19 +459,77 @@ module _ {B S : Type 0} (g : Ghosts B) (signs : S → List ℕ → Result (List 
       (subst (λ xs. count y ≡ count_after_each xs (count x)) (sym written.signed) signer) sealed by
       (says ∙ ap (λ rs. merged rs completions) (sym h.rules_are)) tell)
 
+  -- what went out are the texts of what they reserved
+  pub sends_reserved : (sent : S → List (List ℕ) → S → Type 0) (asked : List Question) (rules : List (Option Rule))
+      (ws : List Waiting) (ss : List (Result (List ℕ) SignerFault)) (vs : List SealValue) (told : List Answer)
+      (sealing : Call) (old mid held : B) (x : S) (new : B) (y : S) → JudgesEach g s asked rules ws old mid
+      → IsCommitted g (map Reserved (map waiting_view ws)) mid held Fine → AreWritten (pendings_in s ws) ss vs told
+      → IsCommitted g (map seal_entry vs) held new sealing → sent x (texts_for s (map waiting_view ws)) y
+      → SendsReserved g sent s asked old x new y
+  sends_reserved sent asked rules ws ss vs told sealing old mid held x new y h reserving written sealed sends = record {
+    reserved = map waiting_view ws;
+    sends = sends;
+    batch = λ honest b stands.
+        let js = h.stamps in
+        let zs = written.completions in
+        let of : AreOf s js zs = written.pendings ∙ ap (pendings_in s) (sym h.waits) in
+        let entries = map Reserved (map waiting_view (waits_of js)) in
+        let reserving_of = subst (λ xs. IsCommitted g (map Reserved (map waiting_view xs)) mid held Fine) (sym h.waits)
+        reserving in
+        let honest_mid = commit_honest g entries mid held Fine reserving_of
+        (commit_honest g (map seal_entry vs) held new sealing sealed honest) in
+        let judged = h.judged honest_mid b stands in
+        let middle = commit_stands g entries mid held Fine b reserving_of refl (h.looks.stands b stands)
+        (fit_each entries b (judged_sound s js b judged stands.sound)) in
+        record {
+          outcomes = outcomes_of sealing js zs;
+          effects = effects_of s sealing js zs;
+          have = subst (λ qs. HaveEffects s qs (outcomes_of sealing js zs) b (effects_of s sealing js zs)) h.questions
+              (have_effects s sealing js zs b judged);
+          reserves = reserves_all s sealing js zs ∙ ap (map waiting_view) h.waits;
+          stands = subst (λ d. Stands g d new) (sym (ends_whole s sealing js zs b of))
+              (stands_in sealing js zs vs b held new of written.seals_are stands.sound judged sealed middle);
+        };
+  }
+
+  -- and none did where their commit was refused
+  pub sends_nothing : (sent : S → List (List ℕ) → S → Type 0) (asked : List Question)
+      (rules rules' : List (Option Rule)) (ws : List Waiting) (reserving : Call) (old mid held new : B) (x : S) → JudgesEach g s asked rules ws old mid
+      → IsCommitted g (map Reserved (map waiting_view ws)) mid held reserving → (reserving ≡ Fine → ⊥)
+      → JudgesEach g s asked rules' [] held new → sent x [] x → SendsReserved g sent s asked old x new x
+  sends_nothing sent asked rules rules' ws reserving old mid held new x h commit refusal again sends = record {
+    reserved = [];
+    sends = sends;
+    batch = λ honest b stands.
+        let ks = again.stamps in
+        let of : AreOf s ks [] = ap (pendings_in s) (sym again.waits) in
+        let entries = map Reserved (map waiting_view ws) in
+        let middle = commit_kept g entries mid held reserving b commit refusal (h.looks.stands b stands) in
+        let judged = again.judged honest b middle in
+        let whole = ends_whole s Fine ks [] b of ∙ ap (λ xs. with_waiting xs b) again.waits in
+        record {
+          outcomes = outcomes_of Fine ks [];
+          effects = effects_of s Fine ks [];
+          have = subst (λ qs. HaveEffects s qs (outcomes_of Fine ks []) b (effects_of s Fine ks [])) again.questions
+              (have_effects s Fine ks [] b judged);
+          reserves = reserves_all s Fine ks [] ∙ ap (map waiting_view) again.waits;
+          stands = subst (λ d. Stands g d new) (sym whole) (again.looks.stands b middle);
+        };
+  }
+
   -- the commit of the reservations was refused, and each is judged anew: nothing is added
-  unreserved_doubt : (js ks : List JudgedStamp) (reserving : Call) (b : History) (left : g.Left) → IsSound b
-      → AreJudged s js b → questions_of ks ≡ questions_of js → (questions_of js ≡ [] → ⊥) → (reserving ≡ Fine → ⊥)
+  unreserved_doubt : (js ks : List JudgedStamp) (answers : List Answer) (b : History) (left : g.Left) → IsSound b
+      → AreJudged s js b → questions_of ks ≡ questions_of js → (questions_of js ≡ [] → ⊥) → AreRejections answers
       → g.holds left (with_waiting (waits_of js) b)
-      → IsDoubtedTogether g s (questions_of js) (outcomes_of Fine ks []) reserving Fine b b left
-  unreserved_doubt js ks reserving b left sound judged same some refusal holds =
+      → IsDoubtedTogether g s (questions_of js) (outcomes_of Fine ks []) answers b b left
+  unreserved_doubt js ks answers b left sound judged same some rejected holds =
       let d = with_waiting (waits_of js) b in
       let front = are_in_front (map Reserved (map waiting_view (waits_of js))) b in
       let es = effects_of s Fine js [] in
       let outcomes = outcomes_of Fine js [] in
       let ends : with_reserved (all_reserved es) b ≡ d = ap (λ rs. with_reserved rs b) (reserves_all s Fine js []) in
       record {
-        refused = λ fine sealing. refusal fine;
+        refused = rejected;
         history = d;
         doubted = front.adds;
         same = subst (ShowsSame d) front.is (shows_itself d);
@@ -426,17 +548,18 @@ module _ {B S : Type 0} (g : Ghosts B) (signs : S → List ℕ → Result (List 
         holds = holds;
       }
 
-  left_unreserved : (js ks : List JudgedStamp) (ws : List Waiting) (reserving : Call) (b : History) (old mid held : B)
-      (left : g.Left) → IsSound b → waits_of js ≡ ws → AreJudged s js b → questions_of ks ≡ questions_of js
+  left_unreserved : (js ks : List JudgedStamp) (ws : List Waiting) (reserving : Call) (answers : List Answer)
+      (b : History) (old mid held : B) (left : g.Left) → IsSound b → waits_of js ≡ ws → AreJudged s js b
+      → questions_of ks ≡ questions_of js → AreRejections answers
       → IsCommitted g (map Reserved (map waiting_view ws)) mid held reserving → (reserving ≡ Fine → ⊥) → g.honest held
       → (g.leaves mid left → g.leaves old left) → Stands g b mid → g.leaves held left
-      → MayBeLeftTogether g s (questions_of ks) (outcomes_of Fine ks []) reserving Fine b old b left
-  left_unreserved js ks ws reserving b old mid held left sound waits judged same (untried none fine is) refusal honest
-      before stands r = absurd (refusal fine)
-  left_unreserved js ks ws reserving b old mid held left sound waits judged same (added some fine a) refusal honest
-      before stands r = absurd (refusal fine)
-  left_unreserved js ks ws reserving b old mid held left sound waits judged same (refused some fault is storage a)
-      refusal honest before stands r =
+      → MayBeLeftTogether g s (questions_of ks) (outcomes_of Fine ks []) answers b old b left
+  left_unreserved js ks ws reserving answers b old mid held left sound waits judged same rejected (untried none fine is)
+      refusal honest before stands r = absurd (refusal fine)
+  left_unreserved js ks ws reserving answers b old mid held left sound waits judged same rejected (added some fine a)
+      refusal honest before stands r = absurd (refusal fine)
+  left_unreserved js ks ws reserving answers b old mid held left sound waits judged same rejected
+      (refused some fault is storage a) refusal honest before stands r =
       elim (a.crash honest left r) [
         | inl earlier ↦ inl (refl, before earlier)
         | inr adds ↦
@@ -445,8 +568,8 @@ module _ {B S : Type 0} (g : Ghosts B) (signs : S → List ℕ → Result (List 
             let asked : questions_of js ≡ [] → ⊥ = λ nobody.
             some (ap (λ xs. map Reserved (map waiting_view xs))
             (sym waits ∙ none_waits js nobody)) in
-            inr (inr (subst (λ qs. IsDoubtedTogether g s qs (outcomes_of Fine ks []) reserving Fine b b left) (sym same)
-            (unreserved_doubt js ks reserving b left sound judged same asked refusal
+            inr (inr (subst (λ qs. IsDoubtedTogether g s qs (outcomes_of Fine ks []) answers b b left) (sym same)
+            (unreserved_doubt js ks answers b left sound judged same asked rejected
             (subst (λ xs. g.holds left (with_waiting xs b)) (sym waits) (adds b stands (fit_each entries b sound_held))))))
       ]
 
@@ -464,6 +587,8 @@ module _ {B S : Type 0} (g : Ghosts B) (signs : S → List ℕ → Result (List 
       let n = g.fault_count old in
       let same : questions_of ks ≡ questions_of js = again.questions ∙ sym h.questions in
       let entries = map Reserved (map waiting_view ws) in
+      let by_rules : answers ≡ merged (rules_of ks) [] = says ∙ ap (λ rs. merged rs []) (sym again.rules_are) in
+      let rejected : AreRejections answers = subst AreRejections (sym by_rules) (all_rejected (rules_of ks)) in
       subst (λ qs. IsAnsweredTogether g signs count s qs answers old x new x) again.questions
       (record {
         outcomes = outcomes;
@@ -479,8 +604,12 @@ module _ {B S : Type 0} (g : Ghosts B) (signs : S → List ℕ → Result (List 
             ∙ (swapped_along (all_looks ks) reserving (faults_along (all_looks js) n)
             ∙ ap (counted reserving) (sym (along_both (all_looks js) (all_looks ks) n))));
         signer = signers_counted s Fine ks [] (count x) none again.rightly;
-        judged = subst (AreRejectedUnasked s.file (questions_of ks))
-            (sym (says ∙ ap (λ rs. merged rs []) (sym again.rules_are))) (rejected_unasked s ks [] again.rightly);
+        judged = subst (λ xs. AreRejectedUnasked s.file (questions_of ks) xs outcomes) (sym by_rules)
+            (rejected_unasked s Fine ks [] [] again.rightly);
+        unasked = λ fails.
+            let none = none_awaited s js h.rightly (subst (AllByRecursion (FailsUnasked s.file)) same fails) in
+            absurd (refusal (none_committed entries mid held reserving
+            (ap (λ xs. map Reserved (map waiting_view xs)) (sym h.waits ∙ none)) commit).0);
         run = λ honest b stands.
             let honest_held = again.looks.honest honest in
             let honest_mid = commit_honest g entries mid held reserving commit honest_held in
@@ -490,17 +619,18 @@ module _ {B S : Type 0} (g : Ghosts B) (signs : S → List ℕ → Result (List 
             (have_effects s Fine ks [] b judged) (move_in_turn signs s Fine ks [] x x
             (subst (λ xs. SignsEach signs x (texts_of (pendings_in s xs)) [] x) (sym again.waits) refl)) in
             let still = run.still (reserves_all s Fine ks [] ∙ ap (map waiting_view) again.waits) in
-            let answered = says ∙ (ap (λ rs. merged rs []) (sym again.rules_are) ∙ sym (says_all s ks [] none)) in
+            let answered = by_rules ∙ sym (says_all s ks [] none) in
             let runs = subst (λ a. Runs signs s (stamps_for (questions_of ks)) outcomes b x a run.history x)
             (sym answered) run.runs in
             record {
               history = run.history;
               runs = runs;
               stands = subst (λ d. Stands g d new) (sym still) (again.looks.stands b middle);
-              left = λ left r. subst (λ d. MayBeLeftTogether g s (questions_of ks) outcomes reserving Fine b old d left)
+              left = λ left r. subst (λ d. MayBeLeftTogether g s (questions_of ks) outcomes answers b old d left)
                   (sym still)
-                  (left_unreserved js ks ws reserving b old mid held left stands.sound h.waits
-                  (h.judged honest_mid b stands) same commit refusal honest_held (h.looks.leaves honest_mid left)
+                  (left_unreserved js ks ws reserving answers b old mid held left stands.sound h.waits
+                  (h.judged honest_mid b stands) same rejected commit refusal honest_held
+                  (h.looks.leaves honest_mid left)
                   (h.looks.stands b stands) (again.looks.leaves honest left r));
               promises = promised_along signs laws s (questions_of ks) outcomes b x answers run.history x stands.sound
                   runs;

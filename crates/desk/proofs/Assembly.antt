@@ -1,5 +1,5 @@
 -- Stamps that were judged, reserved and completed together are a batch of the machine.
-use Rattle.std.proofs.Common.{◌≡◌, ℕ, ◌<◌, ◌≤◌, List, [], ◌∷◌, ◌++◌, map, Option, None, Result, Ok, Err}
+use Rattle.std.proofs.Common.{◌≡◌, ℕ, ◌<◌, ◌≤◌, List, [], ◌∷◌, ◌++◌, map, Option, Result, Ok, Err}
 use Rattle.std.proofs.Common.{refl, sym, ap, ◌∙◌, subst, arith}
 use Rattle.std.specs.List.{AllByRecursion}
 use Rattle.tsp.specs.declared.rule.Rule.{Rule}
@@ -12,24 +12,24 @@ use Rattle.book.specs.History.{greatest_serial}
 use Rattle.book.specs.Sound.{FitsReserved, IsSound}
 use Rattle.desk.specs.Batches.{Question, stamp_for, seals, with_reserved, HaveEffects}
 use Rattle.desk.specs.Batches.{all_reserved, all_sealed, MoveInTurn}
-use Rattle.desk.specs.Command.{Setting, PendingValue, Answer, Rejected}
+use Rattle.desk.specs.Beginnings.{ByRule, ByCause, rule_by}
+use Rattle.desk.specs.Command.{Setting, PendingValue, Answer, Begin, Rejected}
 use Rattle.desk.specs.Completions.{Completion, finished, completed, seals_of, texts_of, AreWaiting}
-use Rattle.desk.specs.Effects.{Effect, only, no_number, next_reservation, stamping_of, stamp_effect, name_of, in_seal}
-use Rattle.desk.specs.Effects.{for_reply}
-use Rattle.desk.specs.Findings.{Allowed}
+use Rattle.desk.specs.Effects.{Effect, only, name_of, in_seal, for_reply}
+use Rattle.desk.specs.Findings.{Fails, Allowed}
 use Rattle.desk.specs.Fit.{IsFit, IsUncounted}
 use Rattle.desk.specs.Outcome.{Call, Fine, Outcome, Cause, all_fine}
 use Rattle.desk.specs.MachineStep.{HasEffect, IsWaiting}
-use Rattle.desk.specs.Texts.{pending_of}
-use Rattle.desk.specs.Together.{Awaits, Verdict, Settled, Waits, JudgedStamp, rule_of, rules_of, met_by, waiting_before}
-use Rattle.desk.specs.Together.{waits_of, reserved_for, IsJudgedAs, AreJudged, IsJudgedRightly, AreFit, merged}
+use Rattle.desk.specs.Verdicts.{Verdict, Settled, Waits, JudgedStamp, rule_of, rules_of, met_by, waiting_before}
+use Rattle.desk.specs.Together.{AreFit}
+use Rattle.desk.specs.Verdicts.{waits_of, reserved_for, IsJudgedAs, AreJudged, IsJudgedRightly, merged}
 use Rattle.desk.specs.WaitingStamps.{waiting_view, pending_in, pendings_in, with_waiting}
 use Rattle.desk.specs.Wholes.{joined, ending, added, stamped}
 use Rattle.desk.specs.declared.waiting_stamp.Waiting.{Waiting}
-use Rattle.desk.proofs.BatchJudgement.{waiting_fits, with_before, fits_stamp}
+use Rattle.desk.proofs.BatchJudgement.{waiting_fits, with_before}
+use Rattle.desk.proofs.Beginnings.{unanswered_found}
 use Rattle.desk.proofs.CompletionLemmas.{void_one}
-use Rattle.desk.proofs.Reserves.{left_number}
-use Rattle.desk.proofs.Stamps.{finds_joined, stamped_by}
+use Rattle.desk.proofs.Stamps.{awaited, stamp_calls, stamp_fits}
 use Rattle.desk.proofs.Views.{fits_seal, reservation_stays}
 
 abbrev pub questions_of : List JudgedStamp → List Question
@@ -55,16 +55,16 @@ rest_of [] = []
 rest_of (z ∷ zs) = zs
 
 abbrev pub behind : Verdict → List Completion → List Completion
-behind (Settled rule o) zs = zs
+behind (Settled why o) zs = zs
 behind (Waits w) zs = rest_of zs
 
 -- the outcome and the effect of each stamp
 abbrev pub outcome_in : Call → Verdict → List Completion → Outcome
-outcome_in sealing (Settled rule o) zs = o
+outcome_in sealing (Settled why o) zs = o
 outcome_in sealing (Waits w) zs = joined (all_fine (Ok [])) (signing_of zs) (finish_of sealing zs)
 
 abbrev pub effect_in : Setting → Call → Verdict → List Completion → Effect
-effect_in s sealing (Settled rule o) zs = only (Rejected rule)
+effect_in s sealing (Settled why o) zs = only (Rejected (rule_by why))
 effect_in s sealing (Waits w) zs =
     stamped for_reply (pending_in s w) (signing_of zs) (Reserved (waiting_view w) ∷ []) (finish_of sealing zs)
 
@@ -85,34 +85,23 @@ besides : (serial : ℕ) (end : Result (List ℕ) Cause) (r : ReservationValue)
 besides serial (Ok token) r = (refl, refl)
 besides serial (Err cause) r = (refl, refl)
 
--- the effect of a stamp that waited
-waited : (s : Setting) (a : Question) (b : History) (w : Waiting) (signing : Result (List ℕ) SignerFault) (o : Outcome)
-    → Awaits s a b w
-    → HasEffect s (stamp_for a) (joined (all_fine (Ok [])) signing o) b
-    (stamped for_reply (pending_in s w) signing (Reserved (waiting_view w) ∷ []) o)
-waited s a b w signing o h =
-    let r = next_reservation s (name_of a.account) h.plan a.octets b in
-    let whole = joined (all_fine (Ok [])) signing o in
-    let why : no_number whole b ≡ None = left_number whole b h.left in (
-      Allowed h.plan,
-      finds_joined s a.account a.reading a.octets (all_fine (Ok [])) o signing b (Allowed h.plan) h.found,
-      ap (λ p. stamped for_reply p signing (Reserved (waiting_view w) ∷ []) o) h.pending
-          ∙ (ap (λ x. stamped for_reply (pending_of s h.plan x) signing (Reserved x ∷ []) o) h.reserves
-          ∙ (stamped_by for_reply s h.plan r (all_fine (Ok [])) o signing
-          ∙ ap (λ x. stamp_effect s (stamping_of s (name_of a.account) h.plan a.octets whole b x)) (sym why))),
-    )
-
 has_one : (s : Setting) (sealing : Call) (a : Question) (v : Verdict) (zs : List Completion) (b : History)
     → IsJudgedAs s a v b → HasEffect s (stamp_for a) (outcome_in sealing v zs) b (effect_in s sealing v zs)
-has_one s sealing a (Settled rule o) zs b h = h
-has_one s sealing a (Waits w) zs b h = waited s a b w (signing_of zs) (finish_of sealing zs) h
+has_one s sealing a (Settled (ByRule rule) o) zs b h = (Fails rule, h, refl)
+has_one s sealing a (Settled (ByCause cause) o) zs b h =
+    (h.found, h.finds, sym (unanswered_found for_reply s (name_of a.account) a.octets o b cause h.found h.why))
+has_one s sealing a (Waits w) zs b h = (
+  Allowed h.plan,
+  h.found,
+  awaited for_reply s a b (waiting_view w) (pending_in s w) (signing_of zs) (finish_of sealing zs) h,
+)
 
 reserves_one : (s : Setting) (sealing : Call) (v : Verdict) (zs : List Completion) (b : History)
     → with_reserved (reservations (effect_in s sealing v zs).adds) b ≡ reserved_for v b
-reserves_one s sealing (Settled rule o) zs b = refl
+reserves_one s sealing (Settled why o) zs b = refl
 reserves_one s sealing (Waits w) zs b =
     ap (λ rs. with_reserved rs b)
-    (besides w.prepared.serial (ending (pending_in s w) (signing_of zs) (finish_of sealing zs)) (waiting_view w)).0
+    (besides w.unsigned.serial (ending (pending_in s w) (signing_of zs) (finish_of sealing zs)) (waiting_view w)).0
 
 pub have_effects : (s : Setting) (sealing : Call) (js : List JudgedStamp) (zs : List Completion) (b : History)
     → AreJudged s js b
@@ -130,10 +119,10 @@ have_effects s sealing (j ∷ js) zs b h =
 reserves_step : (s : Setting) (sealing : Call) (v : Verdict) (zs : List Completion) (ws : List Waiting)
     (rs : List ReservationValue) → rs ≡ map waiting_view ws
     → reservations (effect_in s sealing v zs).adds ++ rs ≡ map waiting_view (waiting_before v ws)
-reserves_step s sealing (Settled rule o) zs ws rs is = is
+reserves_step s sealing (Settled why o) zs ws rs is = is
 reserves_step s sealing (Waits w) zs ws rs is =
     ap (λ one. one ++ rs)
-    (besides w.prepared.serial (ending (pending_in s w) (signing_of zs) (finish_of sealing zs)) (waiting_view w)).0
+    (besides w.unsigned.serial (ending (pending_in s w) (signing_of zs) (finish_of sealing zs)) (waiting_view w)).0
     ∙ ap (λ others. waiting_view w ∷ others) is
 
 pub reserves_all : (s : Setting) (sealing : Call) (js : List JudgedStamp) (zs : List Completion)
@@ -153,7 +142,7 @@ first_of p q ps qs e = (cc, cc)
 
 of_behind : (s : Setting) (v : Verdict) (zs : List Completion) (ws : List Waiting)
     → pendings_of zs ≡ pendings_in s (waiting_before v ws) → pendings_of (behind v zs) ≡ pendings_in s ws
-of_behind s (Settled rule o) zs ws of = of
+of_behind s (Settled why o) zs ws of = of
 of_behind s (Waits w) [] ws of = absurd cc
 of_behind s (Waits w) (z ∷ zs) ws of =
     (first_of z.pending (pending_in s w) (pendings_of zs) (pendings_in s ws) of).1
@@ -162,12 +151,12 @@ seals_step : (s : Setting) (sealing : Call) (v : Verdict) (zs : List Completion)
     (es : List Effect) → pendings_of zs ≡ pendings_in s (waiting_before v ws)
     → all_sealed es ≡ seals_of sealing (behind v zs)
     → all_sealed (effect_in s sealing v zs ∷ es) ≡ seals_of sealing zs
-seals_step s sealing (Settled rule o) zs ws es of rest = rest
+seals_step s sealing (Settled why o) zs ws es of rest = rest
 seals_step s sealing (Waits w) [] ws es of rest = absurd cc
 seals_step s sealing (Waits w) (z ∷ zs) ws es of rest =
     let is = (first_of z.pending (pending_in s w) (pendings_of zs) (pendings_in s ws) of).0 in
     ap (λ one. one ++ all_sealed es)
-    ((besides w.prepared.serial (ending (pending_in s w) z.signing (finished sealing z)) (waiting_view w)).1
+    ((besides w.unsigned.serial (ending (pending_in s w) z.signing (finished sealing z)) (waiting_view w)).1
     ∙ ap (λ p. seals (stamped for_reply p z.signing [] (finished sealing z)).adds) (sym is))
     ∙ ap (λ others. seals (completed sealing z).adds ++ others) rest
 
@@ -186,7 +175,7 @@ says_step : (s : Setting) (v : Verdict) (zs : List Completion) (ws : List Waitin
     (answers : List Answer) → pendings_of zs ≡ pendings_in s (waiting_before v ws)
     → answers ≡ merged vs (replies_of (behind v zs))
     → (effect_in s Fine v zs).says ∷ answers ≡ merged (rule_of v ∷ vs) (replies_of zs)
-says_step s (Settled rule o) zs ws vs answers of rest = ap (λ others. Rejected rule ∷ others) rest
+says_step s (Settled why o) zs ws vs answers of rest = ap (λ others. Rejected (rule_by why) ∷ others) rest
 says_step s (Waits w) [] ws vs answers of rest = absurd cc
 says_step s (Waits w) (z ∷ zs) ws vs answers of rest =
     let is = (first_of z.pending (pending_in s w) (pendings_of zs) (pendings_in s ws) of).0 in
@@ -210,7 +199,7 @@ finish_sealing sealing (z ∷ zs) = refl
 void_step : (s : Setting) (sealing : Call) → (sealing ≡ Fine → ⊥) → (v : Verdict) (zs : List Completion)
     (vs : List (Option Rule)) (answers : List Answer) → answers ≡ merged vs []
     → (effect_in s sealing v zs).says ∷ answers ≡ merged (rule_of v ∷ vs) []
-void_step s sealing h (Settled rule o) zs vs answers rest = ap (λ others. Rejected rule ∷ others) rest
+void_step s sealing h (Settled why o) zs vs answers rest = ap (λ others. Rejected (rule_by why) ∷ others) rest
 void_step s sealing h (Waits w) zs vs answers rest =
     ap (λ one. one ∷ answers) (void_one (pending_in s w) (signing_of zs) (Reserved (waiting_view w) ∷ []) sealing
     (finish_of sealing zs) (finish_sealing sealing zs) h).1
@@ -231,7 +220,7 @@ move_step : {S : Type 0} (signs : S → List ℕ → Result (List ℕ) SignerFau
     → ((z : S) → SignsEach signs z (texts_of (pendings_in s ws)) (signings_of (behind v zs)) y
     → MoveInTurn signs es os z y)
     → MoveInTurn signs (effect_in s sealing v zs ∷ es) (outcome_in sealing v zs ∷ os) x y
-move_step signs s sealing (Settled rule o) zs ws es os x y moves rest = (x, (refl, rest x moves))
+move_step signs s sealing (Settled why o) zs ws es os x y moves rest = (x, (refl, rest x moves))
 move_step signs s sealing (Waits w) [] ws es os x y moves rest = absurd moves
 move_step signs s sealing (Waits w) (z ∷ zs) ws es os x y moves rest = (
   moves.0,
@@ -258,7 +247,7 @@ signer_step : (s : Setting) (sealing : Call) (v : Verdict) (zs : List Completion
     → (met_by v).signing ≡ Ok []
     → ((m : ℕ) → count_after_each (signings_of (behind v zs)) m ≡ count_after_each others m)
     → count_after_each (signings_of zs) n ≡ count_after_each ((outcome_in sealing v zs).signing ∷ others) n
-signer_step s sealing (Settled rule o) zs ws others n of unsigned rest =
+signer_step s sealing (Settled why o) zs ws others n of unsigned rest =
     rest n ∙ ap (λ x. count_after_each (x ∷ others) n) (sym unsigned)
 signer_step s sealing (Waits w) [] ws others n of unsigned rest = absurd cc
 signer_step s sealing (Waits w) (z ∷ zs) ws others n of unsigned rest = rest (count_after z.signing n)
@@ -279,7 +268,7 @@ abbrev pub Grow : List Completion → Type 0
 Grow zs = AllByRecursion (λ z. IsUncounted z.wrapping) zs
 
 grow_behind : (v : Verdict) (zs : List Completion) → Grow zs → Grow (behind v zs)
-grow_behind (Settled rule o) zs grow = grow
+grow_behind (Settled why o) zs grow = grow
 grow_behind (Waits w) [] grow = tt
 grow_behind (Waits w) (z ∷ zs) grow = grow.1
 
@@ -287,12 +276,12 @@ finish_grows : (sealing : Call) (zs : List Completion) → Grow zs → IsUncount
 finish_grows sealing [] grow = tt
 finish_grows sealing (z ∷ zs) grow = grow.0
 
-fits_one : (sealing : Call) (a : Question) (v : Verdict) (zs : List Completion) → IsFit (stamp_for a) (met_by v)
-    → Grow zs → IsFit (stamp_for a) (outcome_in sealing v zs)
-fits_one sealing a (Settled rule o) zs fits grow = fits
+fits_one : (sealing : Call) (a : Question) (v : Verdict) (zs : List Completion)
+    → IsFit (Begin a.account a.reading a.octets) (met_by v) → Grow zs
+    → IsFit (stamp_for a) (outcome_in sealing v zs)
+fits_one sealing a (Settled why o) zs fits grow = stamp_fits a o fits
 fits_one sealing a (Waits w) zs fits grow =
-    fits_stamp a.account a (joined (all_fine (Ok [])) (signing_of zs) (finish_of sealing zs)) refl refl (λ none. refl)
-    (tt, finish_grows sealing zs grow)
+    stamp_calls a (all_fine (Ok [])) (finish_of sealing zs) (signing_of zs) fits (finish_grows sealing zs grow)
 
 pub are_fit : (s : Setting) (sealing : Call) (js : List JudgedStamp) (zs : List Completion)
     → AllByRecursion (IsJudgedRightly s) js → Grow zs → AreFit (questions_of js) (outcomes_of sealing js zs)
@@ -314,7 +303,7 @@ stays_waiting p r b fits h = record {
 
 stays_one : (s : Setting) (a : Question) (v : Verdict) (b : History) (p : PendingValue) → IsJudgedAs s a v b
     → IsWaiting p b → IsWaiting p (reserved_for v b)
-stays_one s a (Settled rule o) b p h waits = waits
+stays_one s a (Settled why o) b p h waits = waits
 stays_one s a (Waits w) b p h waits = stays_waiting p (waiting_view w) b (waiting_fits s a b w h) waits
 
 stays_among : (s : Setting) (js : List JudgedStamp) (b : History) (p : PendingValue) → AreJudged s js b → IsWaiting p b
@@ -329,7 +318,7 @@ rise_step : (s : Setting) (a : Question) (v : Verdict) (ws : List Waiting) (b : 
     → n ≤ greatest_serial b
     → (n ≤ greatest_serial (reserved_for v b) → AllByRecursion (λ q. n < q.serial) (pendings_in s ws))
     → AllByRecursion (λ q. n < q.serial) (pendings_in s (waiting_before v ws))
-rise_step s a (Settled rule o) ws b n h most rest = rest most
+rise_step s a (Settled why o) ws b n h most rest = rest most
 rise_step s a (Waits w) ws b n h most rest =
     let above = (waiting_fits s a b w h).rises in (omega arith, rest (omega arith))
 
@@ -345,19 +334,19 @@ wait_step : (s : Setting) (a : Question) (v : Verdict) (js : List JudgedStamp) (
     → (IsSound (reserved_for v b)
     → AreWaiting (pendings_in s (waits_of js)) (with_waiting (waits_of js) (reserved_for v b)))
     → AreWaiting (pendings_in s (waiting_before v (waits_of js))) (with_waiting (waiting_before v (waits_of js)) b)
-wait_step s a (Settled rule o) js b sound h others rest = rest sound
+wait_step s a (Settled why o) js b sound h others rest = rest sound
 wait_step s a (Waits w) js b sound h others rest =
     let fits = waiting_fits s a b w h in
     let r = waiting_view w in
     let seal = fits_seal r b sound fits.rises in
-    let most : w.prepared.serial ≤ greatest_serial (Reserved r ∷ b) = omega arith in (
+    let most : w.unsigned.serial ≤ greatest_serial (Reserved r ∷ b) = omega arith in (
       stays_among s js (Reserved r ∷ b) (pending_in s w) others (record {
         reservation = r;
         reserved = seal.reserved;
         tst = refl;
         open_yet = seal.open_yet;
       }),
-      rise_among s js (Reserved r ∷ b) w.prepared.serial others most,
+      rise_among s js (Reserved r ∷ b) w.unsigned.serial others most,
       rest (fits, sound),
     )
 

@@ -1,78 +1,88 @@
 -- Stamps of a batch are judged one after the other.
-use Rattle.std.proofs.Common.{◌≡◌, ◌<◌, nat_le, ℕ, ◌+◌, List, [], ◌∷◌, ◌++◌, length, Option, Some, None, Ok}
-use Rattle.std.proofs.Common.{Bool, true, false, if◌then◌else◌, refl, sym, ap, ◌∙◌, subst, append-nil, take, get_or}
+use Rattle.std.proofs.Common.{◌≡◌, ◌<◌, ◌≤◌, nat_le, cond, ℕ, ◌+◌, List, [], ◌∷◌, ◌++◌, length, Option, Some, None, Ok}
+use Rattle.std.proofs.Common.{Bool, true, false, inl, inr, refl, sym, ap, ◌∙◌, subst, take, get_or, arith}
 use Rattle.std.specs.List.{AllByRecursion}
+use Rattle.std.proofs.lemmas.Bool.Decides.{nat_tests}
 use Rattle.std.proofs.lemmas.List.{take_more, map-append}
 use Rattle.policy.specs.Record.{AccountValue}
+use Rattle.der.specs.ObjectIdentifier.{oid_content}
 use Rattle.tsp.specs.Rules.{IsFirstFailing}
 use Rattle.tsp.specs.declared.rule.Rule.{Rule}
-use Rattle.tsp.specs.declared.rule.Rule.TheVariants.{System}
-use Rattle.der.specs.ObjectIdentifier.{oid_content}
-use Rattle.cms.specs.SignedData.{attribute_text}
 use Rattle.book.specs.declared.standing.Standing.{Ghosts}
 use Rattle.book.specs.History.{History, greatest_serial}
 use Rattle.book.specs.Sound.{FitsReserved, IsSound, greatest_number}
 use Rattle.book.specs.Stands.{Stands, OnlyLooks}
-use Rattle.desk.specs.Batches.{Question, stamp_for, faults_along}
-use Rattle.desk.specs.Calls.{IsPrepared, IsOfLooks, IsSomebodys, refused, cause_with}
-use Rattle.desk.specs.Command.{Setting, Rejected}
-use Rattle.desk.specs.Effects.{next_reservation, name_of, no_number, only, stamping_of, stamp_effect}
+use Rattle.desk.specs.Batches.{Question, faults_along}
+use Rattle.desk.specs.Beginnings.{ByRule, ByCause, IsUnreserved, IsAwaited, WaitsFor, IsUnwritten, IsOfJudging}
+use Rattle.desk.specs.Calls.{IsSomebodys, refused, cause_with}
+use Rattle.desk.specs.Command.{Setting, Begin}
+use Rattle.desk.specs.Effects.{name_of, no_number}
 use Rattle.desk.specs.Findings.{StampPlan, HoldsUnasked, Fails, Unanswered, Allowed, Finds}
 use Rattle.desk.specs.Fit.{IsFit, AreGrowths, counting_for}
-use Rattle.desk.specs.MachineStep.{HasEffect}
-use Rattle.desk.specs.Outcome.{Call, Fine, OutOfMemory, Failed, Outcome, Cause, OfMemory, OfStore, cause_of, first_cause}
-use Rattle.desk.specs.Outcome.{all_fine, faults_after}
-use Rattle.desk.specs.Together.{question_view, questions_view, Awaits, Verdict, Settled, Waits, JudgedStamp, rule_of}
-use Rattle.desk.specs.Together.{looks_of, all_looks, waiting_before, waits_of, reserved_for, IsJudgedAs}
-use Rattle.desk.specs.Together.{AreJudged, IsJudgedRightly, JudgesEach, IsTold, JudgesOne, AwaitsOne}
-use Rattle.desk.specs.Together.{IsKept}
-use Rattle.desk.specs.WaitingStamps.{waiting_view, with_waiting, HasText}
+use Rattle.desk.specs.Outcome.{Call, Fine, OutOfMemory, Failed, Outcome, Cause, OfMemory, OfStore, cause_of}
+use Rattle.desk.specs.Outcome.{first_cause, all_fine, faults_after}
+use Rattle.desk.specs.Texts.{tst_of, reservation_of}
+use Rattle.desk.specs.Together.{question_view, questions_view}
+use Rattle.desk.specs.Verdicts.{Verdict, Settled, Waits, JudgedStamp, rule_of}
+use Rattle.desk.specs.Verdicts.{looks_of, all_looks, waiting_before, waits_of, reserved_for, IsJudgedAs}
+use Rattle.desk.specs.Verdicts.{AreJudged, IsJudgedRightly, JudgesEach, JudgesOne, IsKept}
+use Rattle.desk.specs.WaitingStamps.{waiting_view, pending_in, with_waiting}
 use Rattle.desk.specs.declared.batch.Asked.{Asked}
-use Rattle.desk.specs.declared.batch_start.Judged.{Judged}
-use Rattle.desk.specs.declared.batch_start.Judged.TheVariants as judged
 use Rattle.desk.specs.declared.refusal.StampRefusal.{StampRefusal}
 use Rattle.desk.specs.declared.refusal.StampRefusal.TheVariants as refusal
 use Rattle.desk.specs.declared.waiting_stamp.Waiting.{Waiting}
 use Rattle.desk.proofs.Batches.{next_fits}
 use Rattle.desk.proofs.Judgement.{looks_then}
-use Rattle.desk.proofs.Reserves.{next_is, waits_for}
 
--- what is prepared waits
-pub awaits : (s : Setting) (a : Question) (d : History) (plan : StampPlan) (last : ℕ) (w : Waiting)
-    → Finds s.file a.account a.reading a.octets (all_fine (Ok [])) d (Allowed plan) → greatest_serial d ≡ last
-    → last < greatest_number → IsPrepared s plan (last + 1) w.prepared → w.account.now ≡ name_of a.account
-    → w.query.now ≡ a.octets → Awaits s a d w
-awaits s a d plan last w found is left p name query = record {
-  plan = plan;
-  found = found;
-  left = subst (λ n. n < greatest_number) (sym is) left;
-  reserves = subst (λ octets. waiting_view w ≡ next_reservation s (name_of a.account) plan octets d) query
-      (subst (λ account. waiting_view w ≡ next_reservation s account plan w.query.now d) name
-      (next_is s w.account.now plan w.query.now d last w.prepared.serial w.prepared.gen_time
-      (oid_content w.prepared.policy.now) w.prepared.algorithm.now w.prepared.digest.now w.prepared.tst.items is
-      p.number p.moment (ap oid_content p.policy_is) p.algorithm_is p.digest_is p.tst_is));
-  pending = waits_for s plan (waiting_view w) w.prepared.certificate p.certificate_is;
-}
+is_exhausted : (n : ℕ) → greatest_number ≤ n → nat_le greatest_number n ≡ true
+is_exhausted n h = grind (arith, nat_tests)
 
-pub has_text : (s : Setting) (plan : StampPlan) (serial : ℕ) (w : Waiting) → IsPrepared s plan serial w.prepared
-    → HasText s w
-has_text s plan serial w p = p.text_is ∙ ap (attribute_text s.in_force.identity) (sym p.tst_is)
+is_left : (n : ℕ) → n < greatest_number → nat_le greatest_number n ≡ false
+is_left n h = grind (arith, nat_tests)
+
+abbrev causes_at : Outcome → Bool → Option Cause
+causes_at o exhausted = first_cause ((cond exhausted (Some OfStore) None) ∷ cause_of o.growing ∷ cause_of o.adding ∷ [])
+
+-- why there is no number: they are spent, or what was refused
+pub exhausted_number : (o : Outcome) (b : History) → greatest_number ≤ greatest_serial b → no_number o b ≡ Some OfStore
+exhausted_number o b h = ap (causes_at o) (is_exhausted (greatest_serial b) h)
+
+pub left_number : (o : Outcome) (b : History) → greatest_serial b < greatest_number
+    → no_number o b ≡ first_cause (cause_of o.growing ∷ cause_of o.adding ∷ [])
+left_number o b h = ap (causes_at o) (is_left (greatest_serial b) h)
+
+-- what is written is what is reserved next
+pub next_is : (s : Setting) (account : List ℕ) (plan : StampPlan) (octets : List ℕ) (serial gen_time : ℕ)
+    (algorithm digest tst : List ℕ) → gen_time ≡ plan.gen_time
+    → algorithm ≡ oid_content plan.request.imprint.algorithm → digest ≡ plan.request.imprint.hash
+    → tst ≡ tst_of s plan serial → record {
+      serial = serial;
+      account = account;
+      gen_time = gen_time;
+      policy = oid_content plan.policy;
+      algorithm = algorithm;
+      digest = digest;
+      request = octets;
+      tst = tst;
+    } ≡ reservation_of s account plan octets serial
+next_is s account plan octets serial gen_time algorithm digest tst moment is hashed text =
+    rw (moment, is, hashed, text) refl
 
 -- what waits fits
-pub waiting_fits : (s : Setting) (a : Question) (b : History) (w : Waiting) → Awaits s a b w
-    → FitsReserved (waiting_view w) b
+pub waiting_fits : (s : Setting) (a : Question) (b : History) (w : Waiting)
+    → IsAwaited s a b (waiting_view w) (pending_in s w) → FitsReserved (waiting_view w) b
 waiting_fits s a b w h = subst (λ r. FitsReserved r b) (sym h.reserves)
     (next_fits s a.account a.reading a.octets (name_of a.account) b h.plan h.found.0 h.left)
 
 -- what waits for one more is reserved behind what was
 pub with_before : (v : Verdict) (ws : List Waiting) (b : History)
     → with_waiting (waiting_before v ws) b ≡ with_waiting ws (reserved_for v b)
-with_before (Settled rule o) ws b = refl
+with_before (Settled why o) ws b = refl
 with_before (Waits w) ws b = refl
 
 verdict_sound : (s : Setting) (a : Question) (v : Verdict) (b : History) → IsJudgedAs s a v b → IsSound b
     → IsSound (reserved_for v b)
-verdict_sound s a (Settled rule o) b h sound = sound
+verdict_sound s a (Settled why o) b h sound = sound
 verdict_sound s a (Waits w) b h sound = (waiting_fits s a b w h, sound)
 
 pub judged_sound : (s : Setting) (js : List JudgedStamp) (b : History) → AreJudged s js b → IsSound b
@@ -83,7 +93,7 @@ judged_sound s (j ∷ js) b h sound =
     (judged_sound s js (reserved_for j.verdict b) h.1 (verdict_sound s j.question j.verdict b h.0 sound))
 
 before_both : (v : Verdict) (ws us : List Waiting) → waiting_before v ws ++ us ≡ waiting_before v (ws ++ us)
-before_both (Settled rule o) ws us = refl
+before_both (Settled why o) ws us = refl
 before_both (Waits w) ws us = refl
 
 waits_both : (js ks : List JudgedStamp) → waits_of (js ++ ks) ≡ waits_of js ++ waits_of ks
@@ -111,19 +121,6 @@ pub all_next : {X : Type 0} (P : X → Type 0) (xs : List X) (x : X) → AllByRe
 all_next P [] x all one = (one, tt)
 all_next P (y ∷ xs) x all one = (all.0, all_next P xs x all.1 one)
 
--- what is kept of one more
-kept_more : (told : Judged) (v : Verdict) (rules rules' : List (Option Rule)) (ws ws' : List Waiting) → IsTold told v
-    → IsKept told rules rules' ws ws'
-    → (rules' ≡ rules ++ (rule_of v ∷ [])) × (ws' ≡ ws ++ waiting_before v [])
-kept_more (judged.Fails rule) v rules rules' ws ws' told kept = (
-  kept.0 ∙ ap (λ x. rules ++ (rule_of x ∷ [])) (sym told.1),
-  kept.1 ∙ (sym (append-nil ws) ∙ ap (λ x. ws ++ waiting_before x []) (sym told.1)),
-)
-kept_more (judged.Waits w) v rules rules' ws ws' told kept = (
-  kept.0 ∙ ap (λ x. rules ++ (rule_of x ∷ [])) (sym told),
-  kept.1 ∙ ap (λ x. ws ++ waiting_before x []) (sym told),
-)
-
 -- none is judged
 pub judges_none : {B : Type 0} (g : Ghosts B) (s : Setting) (old : B) → JudgesEach g s [] [] [] old old
 judges_none g s old = record {
@@ -139,31 +136,30 @@ judges_none g s old = record {
 
 -- one more is judged
 pub judges_next : {B : Type 0} (g : Ghosts B) (s : Setting) (asked : List Question) (a : Question)
-    (rules rules' : List (Option Rule)) (ws ws' : List Waiting) (told : Judged) (old mid new : B)
-    → JudgesEach g s asked rules ws old mid → JudgesOne g s a ws told mid new → IsKept told rules rules' ws ws'
+    (rules rules' : List (Option Rule)) (ws ws' : List Waiting) (v : Verdict) (old mid new : B)
+    → JudgesEach g s asked rules ws old mid → JudgesOne g s a ws v mid new → IsKept v rules rules' ws ws'
     → JudgesEach g s (asked ++ (a ∷ [])) rules' ws' old new
-judges_next g s asked a rules rules' ws ws' told old mid new all one kept =
+judges_next g s asked a rules rules' ws ws' v old mid new all one more =
     let js = all.stamps in
-    let j : JudgedStamp = record { question = a; verdict = one.verdict } in
-    let more = kept_more told one.verdict rules rules' ws ws' one.tells kept in
+    let j : JudgedStamp = record { question = a; verdict = v } in
     let n = g.fault_count old in
     record {
       stamps = js ++ (j ∷ []);
       questions = map-append (λ k. k.question) js (j ∷ []) ∙ ap (λ qs. qs ++ (a ∷ [])) all.questions;
       rules_are = map-append (λ k. rule_of k.verdict) js (j ∷ [])
-          ∙ (ap (λ rs. rs ++ (rule_of one.verdict ∷ [])) all.rules_are ∙ sym more.0);
-      waits = waits_both js (j ∷ []) ∙ (ap (λ xs. xs ++ waiting_before one.verdict []) all.waits ∙ sym more.1);
+          ∙ (ap (λ rs. rs ++ (rule_of v ∷ [])) all.rules_are ∙ sym more.0);
+      waits = waits_both js (j ∷ []) ∙ (ap (λ xs. xs ++ waiting_before v []) all.waits ∙ sym more.1);
       rightly = all_next (IsJudgedRightly s) js j all.rightly one.rightly;
       looks = looks_then g old mid new all.looks one.looks;
       counted = one.counted
-          ∙ (ap (faults_after (looks_of one.verdict)) all.counted
-          ∙ (sym (along_more (all_looks js) (looks_of one.verdict) n)
+          ∙ (ap (faults_after (looks_of v)) all.counted
+          ∙ (sym (along_more (all_looks js) (looks_of v) n)
           ∙ ap (λ os. faults_along os n) (sym (map-append (λ k. looks_of k.verdict) js (j ∷ [])))));
       judged = λ honest b stands.
           let before = all.judged (one.looks.honest honest) b stands in
           let sound = judged_sound s js b before stands.sound in
           judged_more s js j b before
-          (subst (λ xs. IsJudgedAs s a one.verdict (with_waiting xs b)) (sym all.waits)
+          (subst (λ xs. IsJudgedAs s a v (with_waiting xs b)) (sym all.waits)
           (one.judged honest b (all.looks.stands b stands)
           (subst (λ xs. IsSound (with_waiting xs b)) all.waits sound)));
     }
@@ -176,179 +172,223 @@ asked_more asked i item within is =
     ∙ (sym (map-append question_view (take i asked) (get_or asked i item ∷ []))
     ∙ sym (ap questions_view (take_more asked i item within)))
 
--- the calls that a stamp makes
-pub fits_stamp : (account : Option AccountValue) (a : Question) (o : Outcome) → a.account ≡ account → o.searching ≡ Fine
-    → (account ≡ None → o.counting ≡ Fine) → AreGrowths o → IsFit (stamp_for a) o
-fits_stamp None a o is searching counting grow = (
-  ap (λ x. record o { searching = x; counting = o.counting }) searching
-      ∙ (ap (λ x. record o { searching = Fine; counting = x }) (counting refl)
-      ∙ ap (λ x. record o { searching = Fine; counting = counting_for x o.counting }) (sym is)),
+-- the calls that a stamp makes are those of its beginning, and of its end
+pub fits_begin : (account : Option AccountValue) (a : Question) (o : Outcome) → a.account ≡ account
+    → o ≡ record (all_fine (Ok [])) {
+      looking = o.looking;
+      counting = o.counting;
+      growing = o.growing;
+      adding = o.adding;
+    }
+    → (account ≡ None → o.counting ≡ Fine) → AreGrowths o → IsFit (Begin a.account a.reading a.octets) o
+fits_begin None a o is made counting grow = (
+  made ∙ (ap (λ x. record (all_fine (Ok [])) {
+    looking = o.looking;
+    counting = x;
+    growing = o.growing;
+    adding = o.adding;
+  })
+      (counting refl)
+      ∙ ap (λ x. record (all_fine (Ok [])) {
+        looking = o.looking;
+        counting = counting_for x o.counting;
+        growing = o.growing;
+        adding = o.adding;
+      }) (sym is)),
   grow,
 )
-fits_stamp (Some account) a o is searching counting grow = (
-  ap (λ x. record o { searching = x }) searching
-      ∙ ap (λ x. record o { searching = Fine; counting = counting_for x o.counting }) (sym is),
+fits_begin (Some account) a o is made counting grow = (
+  made ∙ ap (λ x. record (all_fine (Ok [])) {
+    looking = o.looking;
+    counting = counting_for x o.counting;
+    growing = o.growing;
+    adding = o.adding;
+  }) (sym is),
   grow,
 )
 
--- where nothing could be reserved it is rejected by rule 12
-pub unreserved : (s : Setting) (a : Question) (plan : StampPlan) (o : Outcome) (b : History) (cause : Cause)
-    → Finds s.file a.account a.reading a.octets (all_fine (Ok [])) b (Allowed plan) → o.looking ≡ Fine
-    → o.counting ≡ Fine → no_number o b ≡ Some cause → HasEffect s (stamp_for a) o b (only (Rejected System))
-unreserved s a plan o b cause found looking counting why = (
-  Allowed plan,
-  (found.0, looking, counting),
-  ap (λ x. stamp_effect s (stamping_of s (name_of a.account) plan a.octets o b x)) (sym why),
-)
-
--- a cause is there where the commit was refused
-refused_cause : (full : Bool) (growing adding : Call) → (adding ≡ Fine → ⊥)
-    → (cause : Cause) × (first_cause ((if full then Some OfStore else None) ∷ cause_of growing ∷ cause_of adding ∷ [])
-    ≡ Some cause)
-refused_cause true growing adding h = (OfStore, refl)
-refused_cause false OutOfMemory adding h = (OfMemory, refl)
-refused_cause false Failed adding h = (OfStore, refl)
-refused_cause false Fine OutOfMemory h = (OfMemory, refl)
-refused_cause false Fine Failed h = (OfStore, refl)
-refused_cause false Fine Fine h = absurd (h refl)
-
-pub no_number_refused : (o : Outcome) (b : History) → (o.adding ≡ Fine → ⊥)
-    → (cause : Cause) × (no_number o b ≡ Some cause)
-no_number_refused o b h = refused_cause (nat_le greatest_number (greatest_serial b)) o.growing o.adding h
-
--- what a refused look-up leaves fine
-pub look_refused : (account : Option AccountValue) (a : Question) (r : StampRefusal) → a.account ≡ account → IsOfLooks r
-    → IsSomebodys account r → IsFit (stamp_for a) (refused r) × ((refused r).signing ≡ Ok [])
+-- what refuses the judging
+judging_fits : (a : Question) (r : StampRefusal) → IsOfJudging r → IsSomebodys a.account r
+    → IsFit (Begin a.account a.reading a.octets) (refused r) × ((refused r).signing ≡ Ok [])
     × ((n : ℕ) → faults_after (refused r) n ≡ faults_after (record (refused r) { adding = Fine; sealing = Fine }) n)
-look_refused account a (refusal.Looking f) is of somebody =
-    (fits_stamp account a (refused (refusal.Looking f)) is refl (λ none. refl) (tt, tt), refl, λ n. refl)
-look_refused account a (refusal.Counting f) is of somebody =
-    (fits_stamp account a (refused (refusal.Counting f)) is refl (λ none. absurd (somebody none)) (tt, tt), refl, λ n. refl)
-look_refused account a refusal.Exhausted is of somebody = absurd of
-look_refused account a refusal.OutOfMemory is of somebody = absurd of
-look_refused account a (refusal.Adding f) is of somebody = absurd of
-look_refused account a (refusal.Signing f) is of somebody = absurd of
-look_refused account a refusal.OutOfReplyMemory is of somebody = absurd of
-look_refused account a (refusal.Sealing f) is of somebody = absurd of
-
--- what is found is one
-pub fails_alike : (one other : Rule) → Fails one ≡ Fails other → Some one ≡ Some other
-fails_alike one other e = cc
+judging_fits a (refusal.Looking f) of somebody =
+    (fits_begin a.account a (refused (refusal.Looking f)) refl refl (λ none. refl) (tt, tt), refl, λ n. refl)
+judging_fits a (refusal.Counting f) of somebody = (
+  fits_begin a.account a (refused (refusal.Counting f)) refl refl (λ none. absurd (somebody none)) (tt, tt),
+  refl,
+  λ n. refl,
+)
+judging_fits a refusal.Exhausted of somebody =
+    (fits_begin a.account a (refused refusal.Exhausted) refl refl (λ none. refl) (tt, tt), refl, λ n. refl)
+judging_fits a refusal.OutOfMemory of somebody =
+    (fits_begin a.account a (refused refusal.OutOfMemory) refl refl (λ none. refl) (tt, tt), refl, λ n. refl)
+judging_fits a (refusal.Adding f) of somebody =
+    absurd (elim of [ inl x ↦ x | inr x ↦ elim x [ inl e ↦ cc | inr e ↦ cc ] ])
+judging_fits a (refusal.Signing f) of somebody =
+    absurd (elim of [ inl x ↦ x | inr x ↦ elim x [ inl e ↦ cc | inr e ↦ cc ] ])
+judging_fits a refusal.OutOfReplyMemory of somebody =
+    absurd (elim of [ inl x ↦ x | inr x ↦ elim x [ inl e ↦ cc | inr e ↦ cc ] ])
+judging_fits a (refusal.Sealing f) of somebody =
+    absurd (elim of [ inl x ↦ x | inr x ↦ elim x [ inl e ↦ cc | inr e ↦ cc ] ])
 
 -- a rule fails
+pub same_rule : (one other : Rule) → Fails one ≡ Fails other → Some one ≡ Some other
+same_rule one other e = cc
+
 pub judged_failing : {B : Type 0} (g : Ghosts B) (s : Setting) (a : Question) (ws : List Waiting) (rule : Rule)
     (old new : B) → OnlyLooks g old new → g.fault_count new ≡ g.fault_count old
     → (g.honest new → (b : History) → Stands g b old → IsSound (with_waiting ws b)
     → Finds s.file a.account a.reading a.octets (all_fine (Ok [])) (with_waiting ws b) (Fails rule))
     → ((other : Rule) → IsFirstFailing (HoldsUnasked s.file a.account a.octets) other → Fails rule ≡ Fails other)
-    → JudgesOne g s a ws (judged.Fails rule) old new
+    → JudgesOne g s a ws (Settled (ByRule rule) (all_fine (Ok []))) old new
 judged_failing g s a ws rule old new looks counted finds unasked = record {
-  verdict = Settled rule (all_fine (Ok []));
-  tells = (all_fine (Ok []), refl);
   rightly = record {
-    fits = fits_stamp a.account a (all_fine (Ok [])) refl refl (λ none. refl) (tt, tt);
+    fits = fits_begin a.account a (all_fine (Ok [])) refl refl (λ none. refl) (tt, tt);
     unsigned = refl;
     text = tt;
-    unasked = λ other first. fails_alike rule other (unasked other first);
+    unasked = λ other first. same_rule rule other (unasked other first);
   };
   looks = looks;
   counted = counted;
-  judged = λ honest b stands sound. (Fails rule, finds honest b stands sound, refl);
+  judged = finds;
 }
 
--- a look-up is refused
-unanswered_alike : (cause : Cause) (rule : Rule) → Unanswered cause ≡ Fails rule → ⊥
-unanswered_alike cause rule e = cc
+pub failing_alike : (one other : Rule) → Fails one ≡ Fails other
+    → Settled (ByRule one) (all_fine (Ok [])) ≡ Settled (ByRule other) (all_fine (Ok []))
+failing_alike one other e = cc
 
+-- a call had no answer, and no rule of 1 to 9 fails
 pub judged_unanswered : {B : Type 0} (g : Ghosts B) (s : Setting) (a : Question) (ws : List Waiting) (r : StampRefusal)
-    (old new : B) → IsOfLooks r → IsSomebodys a.account r → OnlyLooks g old new
+    (old new : B) → IsOfJudging r → IsSomebodys a.account r → OnlyLooks g old new
     → g.fault_count new ≡ faults_after (refused r) (g.fault_count old)
     → (g.honest new → (b : History) → Stands g b old → IsSound (with_waiting ws b)
-    → Finds s.file a.account a.reading a.octets (refused r) (with_waiting ws b) (Unanswered (cause_with r)))
-    → ((other : Rule) → IsFirstFailing (HoldsUnasked s.file a.account a.octets) other
-    → Unanswered (cause_with r) ≡ Fails other)
-    → JudgesOne g s a ws (judged.Fails System) old new
-judged_unanswered g s a ws r old new of somebody looks counted finds unasked =
-    let fine = look_refused a.account a r refl of somebody in
+    → IsUnreserved s a (refused r) (with_waiting ws b) (cause_with r))
+    → ((rule : Rule) → IsFirstFailing (HoldsUnasked s.file a.account a.octets) rule → ⊥)
+    → JudgesOne g s a ws (Settled (ByCause (cause_with r)) (refused r)) old new
+judged_unanswered g s a ws r old new of somebody looks counted judged unasked =
+    let fine = judging_fits a r of somebody in
     record {
-      verdict = Settled System (refused r);
-      tells = (refused r, refl);
       rightly = record {
         fits = fine.0;
         unsigned = fine.1;
         text = tt;
-        unasked = λ other first. absurd (unanswered_alike (cause_with r) other (unasked other first));
+        unasked = λ rule first. absurd (unasked rule first);
       };
       looks = looks;
       counted = counted ∙ fine.2 (g.fault_count old);
-      judged = λ honest b stands sound. (Unanswered (cause_with r), finds honest b stands sound, refl);
+      judged = judged;
     }
 
--- no rule fails
-allowed_alike : (plan : StampPlan) (rule : Rule) → Allowed plan ≡ Fails rule → ⊥
-allowed_alike plan rule e = cc
+-- what is found is one thing
+pub not_unanswered : (cause : Cause) (rule : Rule) → Unanswered cause ≡ Fails rule → ⊥
+not_unanswered cause rule e = cc
 
-pub judged_allowed : {B : Type 0} (g : Ghosts B) (s : Setting) (a : Question) (ws : List Waiting) (plan : StampPlan)
-    (last : ℕ) (told : Judged) (old new : B) → AwaitsOne s a plan last told → OnlyLooks g old new
+pub not_allowed : (plan : StampPlan) (rule : Rule) → Allowed plan ≡ Fails rule → ⊥
+not_allowed plan rule e = cc
+
+pub unanswered : (s : Setting) (a : Question) (b : History) (r : StampRefusal)
+    → Finds s.file a.account a.reading a.octets (refused r) b (Unanswered (cause_with r))
+    → IsUnreserved s a (refused r) b (cause_with r)
+unanswered s a b r h = record { found = Unanswered (cause_with r); finds = h; why = refl }
+
+-- texts aren't written
+unwritten_why : (b : History) (last : ℕ) (r : StampRefusal) → IsUnwritten last r → last ≡ greatest_serial b
+    → (no_number (refused r) b ≡ Some (cause_with r)) × ((refused r).looking ≡ Fine) × ((refused r).counting ≡ Fine)
+unwritten_why b last r (inl h) is =
+    subst (λ x. (no_number (refused x) b ≡ Some (cause_with x)) × ((refused x).looking ≡ Fine)
+    × ((refused x).counting ≡ Fine)) (sym h.0)
+    (exhausted_number (refused refusal.Exhausted) b (subst (λ n. greatest_number ≤ n) is h.1), refl, refl)
+unwritten_why b last r (inr h) is =
+    subst (λ x. (no_number (refused x) b ≡ Some (cause_with x)) × ((refused x).looking ≡ Fine)
+    × ((refused x).counting ≡ Fine)) (sym h.0)
+    (left_number (refused refusal.OutOfMemory) b (subst (λ n. n < greatest_number) is h.1), refl, refl)
+
+pub unwritten : (s : Setting) (a : Question) (b : History) (plan : StampPlan) (last : ℕ) (r : StampRefusal)
+    → IsUnwritten last r → Finds s.file a.account a.reading a.octets (all_fine (Ok [])) b (Allowed plan)
+    → last ≡ greatest_serial b → IsUnreserved s a (refused r) b (cause_with r)
+unwritten s a b plan last r h found is =
+    let why = unwritten_why b last r h is in
+    record { found = Allowed plan; finds = (found.0, why.1, why.2); why = why.0 }
+
+pub unwritten_of : (account : Option AccountValue) (last : ℕ) (r : StampRefusal) → IsUnwritten last r
+    → IsOfJudging r × IsSomebodys account r × ((n : ℕ) → faults_after (refused r) n ≡ n)
+unwritten_of account last r (inl h) =
+    subst (λ x. IsOfJudging x × IsSomebodys account x × ((n : ℕ) → faults_after (refused x) n ≡ n)) (sym h.0)
+    (inr (inl refl), tt, λ n. refl)
+unwritten_of account last r (inr h) =
+    subst (λ x. IsOfJudging x × IsSomebodys account x × ((n : ℕ) → faults_after (refused x) n ≡ n)) (sym h.0)
+    (inr (inr refl), tt, λ n. refl)
+
+-- no rule fails
+pub waits_as : (s : Setting) (plan : StampPlan) (octets : List ℕ) (last : ℕ) (w : Waiting) (one other : List ℕ)
+    → one ≡ other → WaitsFor s one plan octets last w → WaitsFor s other plan octets last w
+waits_as s plan octets last w one other same h = subst (λ name. WaitsFor s name plan octets last w) same h
+
+pub judged_waiting : {B : Type 0} (g : Ghosts B) (s : Setting) (a : Question) (ws : List Waiting) (plan : StampPlan)
+    (last : ℕ) (w : Waiting) (old new : B) → WaitsFor s (name_of a.account) plan a.octets last w → OnlyLooks g old new
     → g.fault_count new ≡ g.fault_count old
     → (g.honest new → (b : History) → Stands g b old → IsSound (with_waiting ws b)
     → Finds s.file a.account a.reading a.octets (all_fine (Ok [])) (with_waiting ws b) (Allowed plan))
     → (g.honest new → (b : History) → Stands g b old → IsSound (with_waiting ws b)
     → last ≡ greatest_serial (with_waiting ws b))
-    → ((other : Rule) → IsFirstFailing (HoldsUnasked s.file a.account a.octets) other → Allowed plan ≡ Fails other)
-    → JudgesOne g s a ws told old new
-judged_allowed g s a ws plan last told old new awaited looks counted finds is_last unasked = record {
-  verdict = awaited.verdict;
-  tells = awaited.tells;
+    → ((rule : Rule) → IsFirstFailing (HoldsUnasked s.file a.account a.octets) rule → ⊥)
+    → JudgesOne g s a ws (Waits w) old new
+judged_waiting g s a ws plan last w old new h looks counted finds is_last unasked = record {
   rightly = record {
-    fits = awaited.fits;
-    unsigned = awaited.unsigned;
-    text = awaited.text;
-    unasked = λ other first. absurd (allowed_alike plan other (unasked other first));
+    fits = fits_begin a.account a (all_fine (Ok [])) refl refl (λ none. refl) (tt, tt);
+    unsigned = refl;
+    text = h.text;
+    unasked = λ rule first. absurd (unasked rule first);
   };
   looks = looks;
-  counted = counted ∙ sym (awaited.uncounted (g.fault_count old));
+  counted = counted;
   judged = λ honest b stands sound.
-      awaited.judged (with_waiting ws b) (finds honest b stands sound) (is_last honest b stands sound);
+      let is = is_last honest b stands sound in record {
+        plan = plan;
+        found = finds honest b stands sound;
+        left = subst (λ n. n < greatest_number) is h.left;
+        reserves = subst (λ n. waiting_view w ≡ reservation_of s (name_of a.account) plan a.octets (n + 1)) is
+            h.reserves;
+        pending = h.pending;
+      };
 }
 
 -- none fails, but the commit of its reservation was refused
-pub judged_refused : {B : Type 0} (g : Ghosts B) (s : Setting) (a : Question) (plan : StampPlan) (reserving : Call)
-    (old new : B) → (reserving ≡ Fine → ⊥) → OnlyLooks g old new → g.fault_count new ≡ g.fault_count old
+refused_why : (reserving : Call) → (reserving ≡ Fine → ⊥) → (full : Bool)
+    → (cause : Cause) × (first_cause ((cond full (Some OfStore) None) ∷ None ∷ cause_of reserving ∷ []) ≡ Some cause)
+refused_why Fine h full = absurd (h refl)
+refused_why OutOfMemory h true = (OfStore, refl)
+refused_why OutOfMemory h false = (OfMemory, refl)
+refused_why Failed h true = (OfStore, refl)
+refused_why Failed h false = (OfStore, refl)
+
+pub judged_refused : {B : Type 0} (g : Ghosts B) (s : Setting) (a : Question) (plan : StampPlan) (last : ℕ)
+    (reserving : Call) (old new : B) → (reserving ≡ Fine → ⊥) → OnlyLooks g old new
+    → g.fault_count new ≡ g.fault_count old
     → (g.honest new → (b : History) → Stands g b old → IsSound b
     → Finds s.file a.account a.reading a.octets (all_fine (Ok [])) b (Allowed plan))
-    → ((other : Rule) → IsFirstFailing (HoldsUnasked s.file a.account a.octets) other → Allowed plan ≡ Fails other)
-    → JudgesOne g s a [] (judged.Fails System) old new
-judged_refused g s a plan reserving old new refusal looks counted finds unasked =
+    → (g.honest new → (b : History) → Stands g b old → IsSound b → last ≡ greatest_serial b)
+    → ((rule : Rule) → IsFirstFailing (HoldsUnasked s.file a.account a.octets) rule → ⊥)
+    → (cause : Cause)
+    × JudgesOne g s a [] (Settled (ByCause cause) (record (all_fine (Ok [])) { adding = reserving })) old new
+judged_refused g s a plan last reserving old new refusal looks counted finds is_last unasked =
     let o = record (all_fine (Ok [])) { adding = reserving } in
-    record {
-      verdict = Settled System o;
-      tells = (o, refl);
-      rightly = record {
-        fits = fits_stamp a.account a o refl refl (λ none. refl) (tt, tt);
-        unsigned = refl;
-        text = tt;
-        unasked = λ other first. absurd (allowed_alike plan other (unasked other first));
-      };
-      looks = looks;
-      counted = counted;
-      judged = λ honest b stands sound.
-          let why = no_number_refused o b refusal in
-          unreserved s a plan o b why.0 (finds honest b stands sound) refl refl why.1;
-    }
-
--- texts can't be written: no serial number is left, or memory wants
-pub awaits_none : (s : Setting) (a : Question) (plan : StampPlan) (last : ℕ) (o : Outcome) (cause : Cause)
-    → IsFit (stamp_for a) o → o.signing ≡ Ok [] → ((n : ℕ) → faults_after (record o { adding = Fine; sealing = Fine }) n ≡ n)
-    → o.looking ≡ Fine → o.counting ≡ Fine
-    → ((b : History) → last ≡ greatest_serial b → no_number o b ≡ Some cause)
-    → AwaitsOne s a plan last (judged.Fails System)
-awaits_none s a plan last o cause fits unsigned uncounted looking counting why = record {
-  verdict = Settled System o;
-  tells = (o, refl);
-  fits = fits;
-  unsigned = unsigned;
-  text = tt;
-  uncounted = uncounted;
-  judged = λ b found is. unreserved s a plan o b cause found looking counting (why b is);
-}
+    let why = refused_why reserving refusal (nat_le greatest_number last) in (
+      why.0,
+      record {
+        rightly = record {
+          fits = fits_begin a.account a o refl refl (λ none. refl) (tt, tt);
+          unsigned = refl;
+          text = tt;
+          unasked = λ rule first. absurd (unasked rule first);
+        };
+        looks = looks;
+        counted = counted;
+        judged = λ honest b stands sound. record {
+          found = Allowed plan;
+          finds = finds honest b stands sound;
+          why = ap (λ n. first_cause ((cond (nat_le greatest_number n) (Some OfStore) None) ∷ None
+              ∷ cause_of reserving ∷ [])) (sym (is_last honest b stands sound)) ∙ why.1;
+        };
+      },
+    )

@@ -4,6 +4,9 @@ use Rattle.std.proofs.Common.{Ok, Err, refl, sym, ◌∙◌, ap, subst, inl, inr
 use Rattle.std.specs.List.{find, cons_option}
 use Rattle.std.proofs.lemmas.List.{append-nil, map-append}
 use Rattle.policy.specs.Record.{AccountValue, PolicyValue}
+use Rattle.tsp.specs.declared.rule.Rule.{Rule}
+use Rattle.tsp.specs.declared.rule.Rule.TheVariants.{Spelling, Version, Account, Algorithm, HashLength, Policy}
+use Rattle.tsp.specs.declared.rule.Rule.TheVariants.{PolicyAlgorithm, Extensions, Certificate, Clock, Quota, System}
 use Rattle.cms.specs.SignedData.{attribute_text}
 use Rattle.cms.specs.declared.signer.SignerFault.{SignerFault}
 use Rattle.cms.specs.declared.signer.SignerFault.TheVariants as signer
@@ -15,7 +18,8 @@ use Rattle.book.specs.Shows.{ShowsSame}
 use Rattle.book.specs.Sound.{FitsReserved, FitsSealed, IsSound, greatest_number}
 use Rattle.desk.specs.Facts.{facts_of, is_held_at, now_in, count_in, gen_time_in, gen_time_of}
 use Rattle.desk.specs.Outcome.{Outcome, Cause}
-use Rattle.desk.specs.Findings.{StampPlan, IsAllowed, Finding, Fails, Unanswered, Allowed, Finds}
+use Rattle.desk.specs.Findings.{StampPlan, IsAllowed, IsAnsweredFor, IsUnjudged, Finding, Fails, Unanswered, Allowed}
+use Rattle.desk.specs.Findings.{Finds}
 use Rattle.desk.specs.Command.{Setting, PendingValue, Answer}
 use Rattle.desk.specs.Texts.{pending_of, token_with}
 use Rattle.desk.specs.Effects.{Effect, no_number, no_seal, next_reservation, sealed_or_void, signed_or_void}
@@ -29,7 +33,6 @@ use Rattle.desk.specs.Batches.{with_sealed, HaveEffects, all_reserved, all_seale
 use Rattle.desk.specs.Batches.{after_batch, once_reserved, IsRunTogether, IsLeftInBatch, IsCutTogether}
 use Rattle.desk.proofs.SameEffect.{finds_same, found_same, held_same}
 use Rattle.desk.proofs.Sound.{gen_time_bound, number_left, not_full}
-use Rattle.desk.proofs.Stamps.{finds_joined}
 use Rattle.desk.proofs.Views.{fits_seal, reservation_stays}
 use Rattle.desk.specs.Effects.{for_reply}
 use Rattle.desk.proofs.Branches.{stamp_has}
@@ -495,6 +498,38 @@ record IsUnsigned (s : Setting) (a : Question) (o : Outcome) (b : History) (e : 
   effect : Effect
   has : HasEffect s (stamp_for a) (unsigned o) b effect
   leaves : after effect b ≡ with_reserved (reservations e.adds) b
+
+-- what was found is found under another signing
+answered_joined : (o finished : Outcome) (signing : Result (List ℕ) SignerFault) (rule : Rule)
+    → IsAnsweredFor o rule → IsAnsweredFor (joined o signing finished) rule
+answered_joined o finished signing Spelling h = h
+answered_joined o finished signing Version h = h
+answered_joined o finished signing Account h = h
+answered_joined o finished signing Algorithm h = h
+answered_joined o finished signing HashLength h = h
+answered_joined o finished signing Policy h = h
+answered_joined o finished signing PolicyAlgorithm h = h
+answered_joined o finished signing Extensions h = h
+answered_joined o finished signing Certificate h = h
+answered_joined o finished signing Clock h = h
+answered_joined o finished signing Quota h = h
+answered_joined o finished signing System h = h
+
+unjudged_joined : (s : Setting) (account : Option AccountValue) (reading : ℤ) (o finished : Outcome)
+    (signing : Result (List ℕ) SignerFault) (b : History) (cause : Cause)
+    → IsUnjudged s.file account reading o b cause
+    → IsUnjudged s.file account reading (joined o signing finished) b cause
+unjudged_joined s account reading o finished signing b cause h = h
+
+finds_joined : (s : Setting) (account : Option AccountValue) (reading : ℤ) (octets : List ℕ) (o finished : Outcome)
+    (signing : Result (List ℕ) SignerFault) (b : History) (f : Finding)
+    → Finds s.file account reading octets o b f
+    → Finds s.file account reading octets (joined o signing finished) b f
+finds_joined s account reading octets o finished signing b (Fails rule) h =
+    (h.0, answered_joined o finished signing rule h.1)
+finds_joined s account reading octets o finished signing b (Unanswered cause) h =
+    (h.0, unjudged_joined s account reading o finished signing b cause h.1)
+finds_joined s account reading octets o finished signing b (Allowed plan) h = h
 
 is_unsigned : (s : Setting) (a : Question) (o : Outcome) (b : History) (e : Effect)
     → HasEffect s (stamp_for a) o b e → IsUnsigned s a o b e

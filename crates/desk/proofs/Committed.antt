@@ -13,7 +13,7 @@ use Rattle.desk.specs.Calls.{call_of}
 use Rattle.desk.specs.Command.{Answer}
 use Rattle.desk.specs.Commits.{call_for, IsCommitted, untried, added, refused}
 use Rattle.desk.specs.Outcome.{Call, Fine, counted}
-use Rattle.desk.specs.Together.{IsToldBy}
+use Rattle.desk.specs.Verdicts.{IsToldBy}
 use Rattle.std.specs.Result.{is_err}
 use Rattle.desk.proofs.Fits.{is_refused}
 
@@ -95,3 +95,12 @@ pub commit_kept : {B : Type 0} (g : Ghosts B) (entries : List Entry) (old new : 
 commit_kept g entries old new call b (untried none fine same) is stands = absurd (is fine)
 commit_kept g entries old new call b (added some fine a) is stands = absurd (is fine)
 commit_kept g entries old new call b (refused some fault by storage a) is stands = a.err b stands
+
+pub commit_fine : (result : Result (Unit {0}) StoreFault) → is_err result ≡ false → call_for result ≡ Fine
+commit_fine (Ok done) fine = refl
+commit_fine (Err fault) fine = absurd cc
+
+pub commit_refused : (result : Result (Unit {0}) StoreFault) → IfErr result IsOfStorage → is_err result ≡ true
+    → call_for result ≡ Fine → ⊥
+commit_refused (Ok done) storage failed fine = cc
+commit_refused (Err fault) storage failed fine = is_refused fault storage fine

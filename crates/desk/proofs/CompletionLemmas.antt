@@ -21,13 +21,14 @@ use Rattle.desk.specs.Completions.{AreWritten, IsWrittenMore}
 use Rattle.desk.specs.Effects.{in_seal, for_reply, no_seal}
 use Rattle.desk.specs.Fit.{IsUncounted}
 use Rattle.desk.specs.Outcome.{Call, Fine, OutOfMemory, Failed, Outcome, Cause, OfMemory, OfStore, cause_of, first_cause}
+use Rattle.desk.specs.Sent.{texts_for}
 use Rattle.desk.specs.Texts.{token_with}
-use Rattle.desk.specs.Together.{Verdict, Settled, Waits, JudgedStamp, waiting_before, waits_of, HasItsText}
-use Rattle.desk.specs.Together.{IsJudgedRightly}
-use Rattle.desk.specs.WaitingStamps.{pendings_in, HasText}
+use Rattle.desk.specs.Verdicts.{Verdict, Settled, Waits, JudgedStamp, waiting_before, waits_of, HasItsText}
+use Rattle.desk.specs.Verdicts.{IsJudgedRightly}
+use Rattle.desk.specs.WaitingStamps.{waiting_view, pendings_in, HasText}
 use Rattle.desk.specs.Wholes.{token_or, ending, added, ended, answer_by, stamped}
 use Rattle.desk.specs.declared.completion.Seal.{Seal}
-use Rattle.desk.specs.declared.completion.Written.{Written}
+use Rattle.desk.specs.declared.unsigned_token.Written.{Written}
 use Rattle.desk.specs.declared.reply.Reply.{Reply}
 use Rattle.desk.specs.declared.waiting_stamp.Waiting.{Waiting}
 use Rattle.desk.proofs.BatchJudgement.{all_next}
@@ -121,16 +122,24 @@ mapped_more f xs i x within is =
 
 -- the texts that are written are those to sign
 pub texts_written : (s : Setting) (ws : List Waiting) → AllByRecursion (HasText s) ws
-    → map (λ w. w.prepared.text.items) ws ≡ texts_of (pendings_in s ws)
+    → map (λ w. w.unsigned.text.items) ws ≡ texts_of (pendings_in s ws)
 texts_written s [] all = refl
 texts_written s (w ∷ ws) all =
-    ap (λ (text : List ℕ). text ∷ map (λ v. v.prepared.text.items) ws) all.0
-    ∙ ap (λ (texts : List (List ℕ)). attribute_text s.in_force.identity w.prepared.tst.items ∷ texts)
+    ap (λ (text : List ℕ). text ∷ map (λ v. v.unsigned.text.items) ws) all.0
+    ∙ ap (λ (texts : List (List ℕ)). attribute_text s.in_force.identity w.unsigned.tst.items ∷ texts)
     (texts_written s ws all.1)
+
+-- and those of what is reserved
+pub texts_reserved : (s : Setting) (ws : List Waiting)
+    → texts_of (pendings_in s ws) ≡ texts_for s (map waiting_view ws)
+texts_reserved s [] = refl
+texts_reserved s (w ∷ ws) =
+    ap (λ (texts : List (List ℕ)). attribute_text s.in_force.identity w.unsigned.tst.items ∷ texts)
+    (texts_reserved s ws)
 
 text_before : (s : Setting) (v : Verdict) (ws : List Waiting) → HasItsText s v → AllByRecursion (HasText s) ws
     → AllByRecursion (HasText s) (waiting_before v ws)
-text_before s (Settled rule o) ws text all = all
+text_before s (Settled why o) ws text all = all
 text_before s (Waits w) ws text all = (text, all)
 
 pub texts_judged : (s : Setting) (js : List JudgedStamp) → AllByRecursion (IsJudgedRightly s) js
@@ -149,8 +158,8 @@ counts_each (Err signer.Memory ∷ answers) count = counts_each answers count
 pub written_sealed : (p : PendingValue) (signing : Result (List ℕ) SignerFault) (w : Written)
     (seals_before seals_now : List Seal) (before now : List Reply) (seal : Seal) (reply : Reply)
     → IsWritten p signing (Some w) → seals_now ≡ seals_before ++ (seal ∷ []) → now ≡ before ++ (reply ∷ [])
-    → seal_view seal ≡ record { serial = p.serial; token = w.token.items }
-    → reply_as reply ≡ Stamped p.serial w.bytes.items
+    → seal_view seal ≡ record { serial = w.serial; token = w.token.items }
+    → reply_as reply ≡ Stamped w.serial w.bytes.items
     → IsWrittenMore p signing (map seal_view seals_before) (map reply_as before) (map seal_view seals_now)
     (map reply_as now)
 written_sealed p (Ok signature) w seals_before seals_now before now seal reply is seals_are are seal_is reply_is = record {
@@ -158,10 +167,12 @@ written_sealed p (Ok signature) w seals_before seals_now before now seal reply i
   grows = tt;
   seals_are = ap (map seal_view) seals_are ∙ (map-append seal_view seals_before (seal ∷ [])
       ∙ ap (λ (v : SealValue). map seal_view seals_before ++ (v ∷ []))
-      (seal_is ∙ ap (λ (token : List ℕ). record { serial = p.serial; token = token }) is.0));
+      (seal_is ∙ (ap (λ (n : ℕ). record { serial = n; token = w.token.items }) is.0
+      ∙ ap (λ (token : List ℕ). record { serial = p.serial; token = token }) is.1)));
   says = ap (map reply_as) are ∙ (map-append reply_as before (reply ∷ [])
       ∙ ap (λ (a : Answer). map reply_as before ++ (a ∷ []))
-      (reply_is ∙ ap (λ (bytes : List ℕ). Stamped p.serial bytes) is.1));
+      (reply_is ∙ (ap (λ (n : ℕ). Stamped n w.bytes.items) is.0
+      ∙ ap (λ (bytes : List ℕ). Stamped p.serial bytes) is.2)));
 }
 written_sealed p (Err fault) w seals_before seals_now before now seal reply is seals_are are seal_is reply_is = absurd is
 

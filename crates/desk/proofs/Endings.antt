@@ -3,23 +3,22 @@ use Rattle.std.proofs.Common.{◌≡◌, ℕ, List, [], ◌∷◌, ◌++◌, Opt
 use Rattle.std.proofs.Common.{ap, subst, inl, inr}
 use Rattle.std.specs.Prelude.{OnOk, IfErr}
 use Rattle.book.specs.declared.standing.Standing.{Ghosts}
-use Rattle.cms.specs.SignedData.{token}
 use Rattle.cms.specs.Signer.{count_after}
 use Rattle.cms.specs.declared.signer.SignerFault.{SignerFault}
 use Rattle.cms.specs.declared.signer.SignerFault.TheVariants as signer
 use Rattle.book.specs.Entries.{Appends}
 use Rattle.book.specs.Fault.{IsOfStorage}
-use Rattle.book.specs.History.{Entry, History}
+use Rattle.book.specs.History.{History}
 use Rattle.book.specs.Sound.{FitsSealed}
 use Rattle.book.specs.Stands.{Stands}
 use Rattle.book.specs.declared.fault.StoreFault.{StoreFault}
 use Rattle.book.specs.declared.fault.StoreFault.TheVariants as store
 use Rattle.desk.specs.Fit.{IsFit}
-use Rattle.desk.specs.Outcome.{Call, Fine, OutOfMemory, Failed, Outcome, Cause, OfMemory, OfStore, OfSigner}
+use Rattle.desk.specs.Outcome.{Fine, OutOfMemory, Failed, Outcome, Cause, OfMemory, OfStore, OfSigner}
 use Rattle.desk.specs.Outcome.{faults_after, first_cause, all_fine}
 use Rattle.desk.specs.Command.{Setting, PendingValue, Finish, Answer, Refused}
 use Rattle.desk.specs.Texts.{token_with}
-use Rattle.desk.specs.Effects.{Keeping, Purpose, in_seal, fault_of, unless, no_seal, finish_effect}
+use Rattle.desk.specs.Effects.{Keeping, in_seal, fault_of, unless, no_seal, finish_effect}
 use Rattle.desk.specs.MachineStep.{IsWaiting}
 use Rattle.desk.specs.Answers.{reply_as}
 use Rattle.desk.specs.CallContract.{StepsBy, IsBlamed, MayBeLeft, no_signer, committed, in_doubt}
@@ -31,25 +30,12 @@ use Rattle.desk.specs.declared.refusal.StampRefusal.TheVariants as refusal
 use Rattle.desk.proofs.Committed.{counted_as}
 use Rattle.desk.proofs.Fits.{is_refused}
 use Rattle.desk.proofs.Judgement.{same_cause}
-use Rattle.desk.proofs.Stamps.{Tells, tells_opened, tells_blamed, met_all}
+use Rattle.desk.proofs.Beginnings.{Tells, for_parts}
+use Rattle.desk.proofs.Stamps.{tells_opened, tells_blamed, met_all}
 
 -- what waits may be sealed
 pub waiting_fits : (p : PendingValue) (b : History) → IsWaiting p b → FitsSealed p.serial b
 waiting_fits p b w = record { reservation = w.reservation; reserved = w.reserved; open_yet = w.open_yet }
-
--- of one entry that one is in doubt
-pub one_in_doubt : (call : Call) (e : Entry) → in_doubt call (e ∷ []) ≡ e ∷ []
-one_in_doubt Fine e = refl
-one_in_doubt OutOfMemory e = refl
-one_in_doubt Failed e = refl
-
--- the token that is written is that of what waits
-pub token_seen : (p q : PendingValue) (signature written lent tst : List ℕ) → q ≡ p → tst ≡ q.tst → lent ≡ written
-    → written ≡ token q.identity q.algorithm tst signature q.certificate → lent ≡ token_with p signature
-token_seen p q signature written lent tst same tst_is lent_is text =
-    lent_is
-    ∙ (text ∙ (ap (λ x. token q.identity q.algorithm x signature q.certificate) tst_is
-    ∙ ap (λ x. token_with x signature) same))
 
 -- no memory for the token
 pub unwrapped : {B : Type 0} (g : Ghosts B) (k : Keeping) (p : PendingValue) (signature : List ℕ) (v : B)
@@ -153,20 +139,15 @@ unstored g k p signature serial token old new f number is storage a =
     (subst (λ n. Appends {A = Unit {0}} g (k.adds n token ∷ []) old new (Err f)) number a))
 
 -- a finish is the end of a stamp whose signature is handed in
-abbrev pub for_finish : Purpose
-for_finish = record {
-  keeping = in_seal;
-  rejects = λ rule. Refused (fault_of OfMemory);
-  refuses = λ cause. Refused (fault_of cause);
-}
-
 tells_finish : {B : Type 0} (g : Ghosts B) (p : PendingValue) (signature : List ℕ)
-    → Tells g (Finish p signature) for_finish
+    → Tells g (Finish p signature) for_parts
 tells_finish g p signature = record {
   opens = λ n token new open_yet. open_yet;
   refuses = λ cause new. tt;
+  rejects = λ rule new. tt;
   grants = λ n token o old new. tt;
   blames = λ cause o old new blamed. blamed;
+  fails = λ rule o old new. tt;
 }
 
 -- what it adds and says
@@ -174,7 +155,7 @@ finish_is : (p : PendingValue) (signature : List ℕ) (why : Option Cause)
     → ((unless why (finish_effect p signature)).adds ≡ added in_seal p.serial (token_or (token_with p signature) why))
     × (((unless why (finish_effect p signature)).asks ≡ None)
     × ((unless why (finish_effect p signature)).says
-    ≡ answer_by for_finish.refuses (ended in_seal p.serial (token_or (token_with p signature) why))))
+    ≡ answer_by for_parts.refuses (ended in_seal p.serial (token_or (token_with p signature) why))))
 finish_is p signature None = (refl, (refl, refl))
 finish_is p signature (Some cause) = (refl, (refl, refl))
 
@@ -216,21 +197,21 @@ finish_fits p signature (refusal.Sealing f) h = (refl, (tt, tt))
 finishes_as : {B : Type 0} (g : Ghosts B) (s : Setting) (p : PendingValue) (signature : List ℕ) (o : Outcome)
     (old new : B) (answer : Result Answer Cause) → IsFit (Finish p signature) o
     → Ends g in_seal p (Ok signature) o old new answer
-    → StepsBy g no_signer s (Finish p signature) o old new (answer_by for_finish.refuses answer)
+    → StepsBy g no_signer s (Finish p signature) o old new (answer_by for_parts.refuses answer)
 finishes_as g s p signature o old new answer fit ends =
     let c = Finish p signature in
     let end = ending p (Ok signature) o in
     let tells = tells_finish g p signature in
     let is = finish_is p signature (no_seal o) in
-    subst (λ a. StepsBy g no_signer s c o old new (answer_by for_finish.refuses a)) (sym ends.says)
+    subst (λ a. StepsBy g no_signer s c o old new (answer_by for_parts.refuses a)) (sym ends.says)
     (record {
       fits = fit;
       counted = ends.counted ∙ sym (ap (λ w. faults_after w (g.fault_count old)) fit.0);
       signer = tt;
-      blames = subst (λ w. IsBlamed g c w old new (answer_by for_finish.refuses (ended in_seal p.serial end)))
-          (sym fit.0) (tells_blamed g c for_finish tells p.serial (joined (all_fine (Ok [])) (Ok []) o) old new end
+      blames = subst (λ w. IsBlamed g c w old new (answer_by for_parts.refuses (ended in_seal p.serial end)))
+          (sym fit.0) (tells_blamed g c for_parts tells p.serial (joined (all_fine (Ok [])) (Ok []) o) old new end
           (met_all g c (Ok []) o old new end ends.grows (finish_met signature o end ends.met)));
-      opened = λ honest. tells_opened g c for_finish tells p.serial new end (ends.opened honest);
+      opened = λ honest. tells_opened g c for_parts tells p.serial new end (ends.opened honest);
       steps = λ honest b stands met.
           let h = ends.steps honest b stands (λ token. waiting_fits p b met.0) in
           record {

@@ -34,7 +34,7 @@ use Rattle.desk.specs.declared.obstacle.Obstacle.{Obstacle}
 use Rattle.desk.specs.declared.obstacle.Obstacle.TheVariants as obstacle
 use Rattle.desk.proofs.Denied.{looked_up, denied}
 use Rattle.desk.proofs.Fits.{none_failed}
-use Rattle.desk.proofs.Endings.{one_in_doubt}
+use Rattle.desk.proofs.Beginnings.{one_in_doubt}
 use Rattle.desk.proofs.StepFacts.{right_seen}
 use Rattle.desk.proofs.Wrapped.{wrapped}
 

@@ -6,7 +6,7 @@ pub mod Among
 pub mod Assembly
 pub mod BatchRows
 pub mod Batches
-pub mod Begins
+pub mod Beginnings
 pub mod Branches
 pub mod Clocks
 pub mod ClosedBooks
@@ -20,6 +20,7 @@ pub mod FalseVariants
 pub mod Fits
 pub mod Given
 pub mod Grants
+pub mod Halves
 pub mod Headline
 pub mod Installation
 pub mod Judgement
@@ -35,7 +36,6 @@ pub mod Planned
 pub mod Promised
 pub mod Readers
 pub mod StampReplies
-pub mod Reserves
 pub mod Rows
 pub mod RisingOn
 pub mod RunsOn

@@ -1,19 +1,27 @@
 -- A deposit of new octets is a stamp, whose token is kept with it.
-use Rattle.std.proofs.Common.{◌≡◌, ℕ, ◌≤◌, nat_le, ℤ, Bool, true, List, length, Some, None, refl, sym, ◌∙◌, ap}
-use Rattle.std.proofs.Common.{subst, arith}
+use Rattle.std.proofs.Common.{◌≡◌, ℕ, ◌≤◌, nat_le, ℤ, Bool, true, List, [], length, Option, Some, None, Ok, refl, sym}
+use Rattle.std.proofs.Common.{◌∙◌, ap, subst, arith}
 use Rattle.std.proofs.lemmas.Bool.Decides.{nat_tests}
 use Rattle.book.specs.declared.standing.Standing.{Ghosts}
 use Rattle.sha2.specs.Sha256.{sha256}
 use Rattle.policy.specs.Record.{AccountValue, PolicyValue}
 use Rattle.tsp.specs.Request.{RequestValue, Spells, sha256_request}
-use Rattle.book.specs.History.{History, deposit_under}
-use Rattle.desk.specs.Outcome.{Fine, Outcome, cause_of}
-use Rattle.desk.specs.Findings.{Finding, Finds}
-use Rattle.desk.specs.Command.{Setting, Deposit, Refused}
+use Rattle.tsp.specs.Rules.{IsFirstFailing}
+use Rattle.tsp.specs.declared.rule.Rule.{Rule}
+use Rattle.book.specs.History.{History, deposit_under, greatest_serial}
+use Rattle.book.specs.Sound.{IsSound}
+use Rattle.book.specs.Stands.{Stands, OnlyLooks}
+use Rattle.desk.specs.Beginnings.{WaitsFor}
+use Rattle.desk.specs.Outcome.{Fine, Outcome, all_fine, cause_of}
+use Rattle.desk.specs.Findings.{StampPlan, HoldsUnasked, Finding, Allowed, Finds}
+use Rattle.desk.specs.Verdicts.{Waits, JudgesOne}
+use Rattle.desk.specs.declared.waiting_stamp.Waiting.{Waiting}
+use Rattle.desk.specs.Command.{Setting, Deposit}
 use Rattle.desk.specs.Texts.{gives_certificate, request_for, octets_for}
-use Rattle.desk.specs.Effects.{for_deposit, deposit_found}
+use Rattle.desk.specs.Effects.{for_deposit, deposit_found, name_of}
 use Rattle.desk.specs.MachineStep.{HasEffect, KeepsWithinSize, KeepsOnceSearched, KeepsByReference}
-use Rattle.desk.specs.NewDeposit.{IsUnused}
+use Rattle.desk.specs.NewDeposit.{octets_of, question_of, IsUnused}
+use Rattle.desk.proofs.BatchJudgement.{judged_waiting}
 use Rattle.desk.proofs.Stamps.{IsStamp}
 use Rattle.desk.proofs.Views.{fits_seal}
 
@@ -23,6 +31,22 @@ pub request_is : (file : PolicyValue) (a : AccountValue) (bytes digest : List �
     → certificate ≡ gives_certificate file a → r ≡ request_for file a bytes
 request_is file a bytes digest certificate r made hashed gives =
     made ∙ (ap (λ d. sha256_request d certificate) hashed ∙ ap (sha256_request (sha256 bytes)) gives)
+
+-- what was judged of it
+pub made_judged : {B : Type 0} (g : Ghosts B) (s : Setting) (account : Option AccountValue) (reading : ℤ)
+    (r : RequestValue) (plan : StampPlan) (last : ℕ) (w : Waiting) (name octets : List ℕ) (old mid : B)
+    → plan.request ≡ r → name ≡ name_of account → octets ≡ octets_of plan.request → WaitsFor s name plan octets last w
+    → OnlyLooks g old mid → g.fault_count mid ≡ g.fault_count old
+    → (g.honest mid → (b : History) → Stands g b old → IsSound b
+    → Finds s.file account reading (octets_of r) (all_fine (Ok [])) b (Allowed plan))
+    → (g.honest mid → (b : History) → Stands g b old → IsSound b → last ≡ greatest_serial b)
+    → ((rule : Rule) → IsFirstFailing (HoldsUnasked s.file account (octets_of r)) rule → ⊥)
+    → JudgesOne g s (question_of account reading r) [] (Waits w) old mid
+made_judged g s account reading r plan last w name octets old mid same named made waits looks counted finds is_last
+    unasked =
+    judged_waiting g s (question_of account reading r) [] plan last w old mid
+    (subst (λ xs. WaitsFor s (name_of account) plan xs last w) (made ∙ ap octets_of same)
+    (subst (λ x. WaitsFor s x plan octets last w) named waits)) looks counted finds is_last unasked
 
 -- a plan is found as for a stamp
 under_octets : (s : Setting) (a : AccountValue) (reading : ℤ) (reference bytes : List ℕ) (o : Outcome) (b : History)
@@ -40,11 +64,11 @@ under_octets s a reading reference bytes o b f few unused spelled fine found =
 pub is_few : (n : ℕ) → n ≤ 1_048_576 → nat_le n 1_048_576 ≡ true
 is_few n h = grind (arith, nat_tests)
 
-pub new_deposit : {B : Type 0} (g : Ghosts B) (s : Setting) (a : AccountValue) (reading : ℤ) (reference bytes : List ℕ)
+as_made : {B : Type 0} (g : Ghosts B) (s : Setting) (a : AccountValue) (reading : ℤ) (reference bytes : List ℕ)
     → length bytes ≤ 1_048_576 → Spells (octets_for s.file a bytes) (request_for s.file a bytes)
-    → IsStamp g s (Deposit a reading reference bytes) (for_deposit a.name reference bytes) (Some a) reading
-    (octets_for s.file a bytes) (IsUnused a reference)
-new_deposit g s a reading reference bytes few spelled = record {
+    → IsStamp g s (Deposit a reading reference bytes) (for_deposit a.name reference bytes)
+    (question_of (Some a) reading (request_for s.file a bytes)) (IsUnused a reference)
+as_made g s a reading reference bytes few spelled = record {
   has = λ o b f unused fine found. under_octets s a reading reference bytes o b f (is_few (length bytes) few) unused
       spelled fine found;
   calls = λ o finished signing fits wrapped. (refl, (fits.1.0, wrapped));
@@ -56,9 +80,19 @@ new_deposit g s a reading reference bytes few spelled = record {
   tells = record {
     opens = λ n token new open_yet. open_yet;
     refuses = λ cause new. tt;
+    rejects = λ rule new. tt;
     grants = λ n token o old new. tt;
     blames = λ cause o old new blamed. blamed;
+    fails = λ rule o old new. tt;
   };
-  alike = λ one other e. ap Refused e;
   excused = λ old new e. e;
 }
+
+pub new_deposit : {B : Type 0} (g : Ghosts B) (s : Setting) (a : AccountValue) (reading : ℤ) (reference bytes : List ℕ)
+    (r : RequestValue) → r ≡ request_for s.file a bytes → length bytes ≤ 1_048_576 → Spells (octets_of r) r
+    → IsStamp g s (Deposit a reading reference bytes) (for_deposit a.name reference bytes)
+    (question_of (Some a) reading r) (IsUnused a reference)
+new_deposit g s a reading reference bytes r same few spelled =
+    subst (λ x. IsStamp g s (Deposit a reading reference bytes) (for_deposit a.name reference bytes)
+    (question_of (Some a) reading x) (IsUnused a reference)) (sym same)
+    (as_made g s a reading reference bytes few (subst (λ x. Spells (octets_of x) x) same spelled))

@@ -26,6 +26,7 @@ use Rattle.desk.specs.RunContract.{RunsBy, told_by}
 use Rattle.desk.specs.declared.settings.Settings.{Settings}
 use Rattle.desk.specs.declared.obstacle.Obstacle.{Obstacle}
 use Rattle.desk.specs.declared.obstacle.Obstacle.TheVariants as obstacle
+use Rattle.desk.specs.Succession.{HasSubject}
 use Rattle.desk.specs.Viewers.{viewer_in}
 use Rattle.desk.proofs.Sound.{TextLaws}
 use Rattle.desk.proofs.Acknowledged.{readers_along}
@@ -35,6 +36,28 @@ use Rattle.desk.proofs.Opened.{StaysUnder}
 use Rattle.desk.proofs.Others.{step_stays}
 use Rattle.desk.proofs.Promised.{keeps_promises}
 use Rattle.desk.proofs.Whole.{continued, runs_alike}
+
+-- the policy file stays
+pub file_stays : {B X : Type 0} (g : Ghosts B) (signs : X → List ℕ → Result (List ℕ) SignerFault → X → Type 0)
+    (count : X → ℕ) (s : Setting) (cs : List Command) (os : List Outcome) (answers : List Answer) (old : B) (x : X)
+    (s' : Setting) (new : B) (y : X) → AreSteps g signs count s cs os answers old x s' new y → s'.file ≡ s.file
+file_stays g signs count s [] [] [] old x s' new y h = ap (λ k. k.file) h.0
+file_stays g signs count s (c ∷ cs) (o ∷ os) (answer ∷ answers) old x s' new y h =
+    file_stays g signs count (setting_after s c answer) cs os answers h.0 h.1 s' new y h.2.2
+file_stays g signs count s [] [] (answer ∷ answers) old x s' new y h = absurd h
+file_stays g signs count s [] (o ∷ os) answers old x s' new y h = absurd h
+file_stays g signs count s (c ∷ cs) [] answers old x s' new y h = absurd h
+file_stays g signs count s (c ∷ cs) (o ∷ os) [] old x s' new y h = absurd h
+
+-- and so it is proper still
+pub proper_still : (s s' : Setting) → IsProper s → s'.file ≡ s.file → HasSubject s'.in_force.identity → IsProper s'
+proper_still s s' proper same subject =
+    let file = subst (λ f. IsProper (record s { file = f })) (sym same) proper in record {
+      some_accuracy = file.some_accuracy;
+      most_accuracy = file.most_accuracy;
+      policies = file.policies;
+      identity = subject;
+    }
 
 -- a step that asks no signer, with a signer that stays as it is
 pub with_resting : {B X : Type 0} (g : Ghosts B) (signs : X → List ℕ → Result (List ℕ) SignerFault → X → Type 0)

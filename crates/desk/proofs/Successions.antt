@@ -26,7 +26,7 @@ use Rattle.desk.specs.Shown.{done_as}
 use Rattle.desk.specs.Succession.{installed_by, is_latest}
 use Rattle.desk.specs.declared.obstacle.Obstacle.TheVariants as obstacle
 use Rattle.desk.proofs.Fits.{none_failed}
-use Rattle.desk.proofs.Endings.{one_in_doubt}
+use Rattle.desk.proofs.Beginnings.{one_in_doubt}
 use Rattle.desk.proofs.Wrapped.{wrapped}
 
 -- the latest identity is that of the newest row

@@ -1,37 +1,28 @@
 -- What the program's types stand for, and what the parts of a call answer.
-use Rattle.std.specs.Prelude.{◌≡◌, ◌⊎◌, ℕ, ◌≤◌, min, ℤ, List, [], length, Option, Some, None, option_map, Result, Ok}
+use Rattle.std.specs.Prelude.{◌≡◌, ℕ, ◌≤◌, min, ℤ, List, [], length, Option, Some, None, option_map, Result, Ok}
 use Rattle.std.specs.Prelude.{Err}
 use Rattle.gentime.specs.GenTime.{last_moment}
-use Rattle.der.specs.ObjectIdentifier.{oid_content}
 use Rattle.policy.specs.Record.{AccountValue}
 use Rattle.policy.specs.View.{policy_view}
 use Rattle.policy.specs.declared.policy.Policy.{Policy}
 use Rattle.tsp.specs.Request.{RequestValue, Spells}
 use Rattle.tsp.specs.View.{request_view}
 use Rattle.cms.specs.Identity.{IdentityValue}
-use Rattle.cms.specs.SignedData.{attribute_text}
 use Rattle.cms.specs.declared.signer.SignerFault.{SignerFault}
 use Rattle.cms.specs.declared.signer.SignerFault.TheVariants as signer
 use Rattle.decide.specs.declared.facts.Calibration.{Calibration}
 use Rattle.book.specs.Fault.{IsOfStorage}
 use Rattle.book.specs.declared.fault.StoreFault.{StoreFault}
 use Rattle.book.specs.declared.fault.StoreFault.TheVariants as store
-use Rattle.book.specs.declared.standing.Standing.{Ghosts}
 use Rattle.book.specs.History.{History, CalibrationValue, greatest_serial, count_of_day}
-use Rattle.book.specs.Stands.{Stands}
 use Rattle.desk.specs.Facts.{calibration_of, clock_of}
 use Rattle.desk.specs.Outcome.{Call, Fine, OutOfMemory, Failed, Outcome, Cause, OfMemory, OfStore, OfSigner, all_fine}
-use Rattle.desk.specs.Effects.{Effect, begin_effect, no_number, fault_of}
 use Rattle.desk.specs.Findings.{StampPlan, Finding, Fails, Unanswered, Allowed}
-use Rattle.desk.specs.Command.{InForce, Setting, PendingValue, Answer, Begun, Done, Refused}
-use Rattle.desk.specs.MachineRuns.{after}
-use Rattle.desk.specs.CallContract.{committed}
-use Rattle.desk.specs.Texts.{tst_of}
+use Rattle.desk.specs.Command.{InForce, Setting, Answer, Done}
 use Rattle.desk.specs.declared.findings.Judgement.{Judgement}
 use Rattle.desk.specs.declared.findings.Judgement.TheVariants as found
 use Rattle.desk.specs.declared.findings.Planned.{Planned}
 use Rattle.desk.specs.declared.clock_facts.Looked.{Looked}
-use Rattle.desk.specs.declared.reservation.Prepared.{Prepared}
 use Rattle.desk.specs.declared.settings.Settings.{Settings}
 use Rattle.desk.specs.declared.refusal.StampRefusal.{StampRefusal}
 use Rattle.desk.specs.declared.refusal.StampRefusal.TheVariants as refusal
@@ -88,16 +79,6 @@ IsSomebodys account (refusal.Signing f) = Unit {0}
 IsSomebodys account refusal.OutOfReplyMemory = Unit {0}
 IsSomebodys account (refusal.Sealing f) = Unit {0}
 
--- a reservation was refused
-abbrev pub IsOfReserving : StampRefusal → Type 0
-IsOfReserving refusal.Exhausted = Unit {0}
-IsOfReserving refusal.OutOfMemory = Unit {0}
-IsOfReserving (refusal.Adding f) = IsOfStorage f
-IsOfReserving _ = ⊥
-
-abbrev pub IsOfBeginning : StampRefusal → Type 0
-IsOfBeginning r = IsOfLooks r ⊎ IsOfReserving r
-
 abbrev pub outcome_of : {A : Type 0} → Result A StampRefusal → Outcome
 outcome_of (Ok a) = all_fine (Ok [])
 outcome_of (Err r) = refused r
@@ -149,42 +130,6 @@ HasLast last (found.Allows p) = p.last ≡ last
 abbrev pub count_for : Option AccountValue → ℕ → History → ℕ
 count_for None day b = 0
 count_for (Some account) day b = count_of_day account.name day b
-
--- what is written for a reservation under a serial number
-pub record IsPrepared (s : Setting) (plan : StampPlan) (serial : ℕ) (p : Prepared) : Type 0 where
-  pub number : p.serial ≡ serial
-  pub moment : p.gen_time ≡ plan.gen_time
-  pub moment_within : p.gen_time ≤ last_moment
-  pub policy_is : p.policy.now ≡ plan.policy
-  pub algorithm_is : p.algorithm.now ≡ oid_content plan.request.imprint.algorithm
-  pub digest_is : p.digest.now ≡ plan.request.imprint.hash
-  pub certificate_is : p.certificate ≡ plan.request.cert_req
-  pub tst_is : p.tst.items ≡ tst_of s plan serial
-  pub text_is : p.text.items ≡ attribute_text s.in_force.identity (tst_of s plan serial)
-
--- what waits for its signature, or the refusal
-abbrev pub pending_as : Result PendingValue StampRefusal → Answer
-pending_as (Ok p) = Begun p
-pending_as (Err r) = Refused (fault_of (cause_with r))
-
--- what a reservation adds and answers
-abbrev pub reserving : Setting → List ℕ → StampPlan → List ℕ → Outcome → History → Effect
-reserving s account plan octets o b = begin_effect s account plan octets b (no_number o b)
-
--- what a stop after it may leave
-abbrev pub LeftReserving : {B : Type 0} → (g : Ghosts B) → Setting → List ℕ → StampPlan → List ℕ → Outcome → History
-    → B → g.Left → Type 0
-LeftReserving g s account plan octets o b old left =
-    (((reserving s account plan octets o b).adds ≡ []) × g.leaves old left)
-    ⊎ (g.holds left (after (reserving s account plan octets o b) b)
-    ⊎ ((o.adding ≡ Fine → ⊥) × g.holds left (after (reserving s account plan octets (committed o) b) b)))
-
-pub record Reserves {B : Type 0} (g : Ghosts B) (s : Setting) (account : List ℕ) (plan : StampPlan) (octets : List ℕ)
-    (b : History) (old new : B) (result : Result PendingValue StampRefusal) : Type 0 where
-  pub says : pending_as result ≡ (reserving s account plan octets (outcome_of result) b).says
-  pub stands : Stands g (after (reserving s account plan octets (outcome_of result) b) b) new
-  pub left : (left : g.Left) → g.leaves new left
-      → LeftReserving g s account plan octets (outcome_of result) b old left
 
 -- what is in force from now on is brought so
 abbrev pub succeeded_as : Settings → Answer

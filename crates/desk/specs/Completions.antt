@@ -15,7 +15,7 @@ use Rattle.desk.specs.Outcome.{Call, Fine, Outcome, all_fine}
 use Rattle.desk.specs.Texts.{token_with}
 use Rattle.desk.specs.Wholes.{stamped}
 use Rattle.desk.specs.declared.completion.Seal.{Seal}
-use Rattle.desk.specs.declared.completion.Written.{Written}
+use Rattle.desk.specs.declared.unsigned_token.Written.{Written}
 
 -- the texts that are signed
 abbrev pub texts_of : List PendingValue → List (List ℕ)
@@ -48,7 +48,8 @@ AreWaiting (p ∷ ps) b = IsWaiting p b × AllByRecursion (λ q. p.serial < q.se
 abbrev pub IsWritten : PendingValue → Result (List ℕ) SignerFault → Option Written → Type 0
 IsWritten p signing None = Unit {0}
 IsWritten p (Ok signature) (Some w) =
-    (w.token.items ≡ token_with p signature) × (w.bytes.items ≡ granted_octets (token_with p signature))
+    (w.serial ≡ p.serial) × (w.token.items ≡ token_with p signature)
+    × (w.bytes.items ≡ granted_octets (token_with p signature))
 IsWritten p (Err fault) (Some w) = ⊥
 
 -- a token that is to be sealed

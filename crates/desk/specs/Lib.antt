@@ -2,6 +2,7 @@ pub mod Agreement
 pub mod Answers
 pub mod Asked
 pub mod Batches
+pub mod Beginnings
 pub mod CallContract
 pub mod Calls
 pub mod Closed
@@ -16,6 +17,8 @@ pub mod Facts
 pub mod Fault
 pub mod Findings
 pub mod Fit
+pub mod Halves
+pub mod Kept
 pub mod Laws
 pub mod MachineRuns
 pub mod MachineStep
@@ -26,14 +29,15 @@ pub mod Outcome
 pub mod Promises
 pub mod Readers
 pub mod Replies
-pub mod Rooms
 pub mod RunContract
+pub mod Sent
 pub mod Serials
 pub mod Shown
 pub mod Sight
 pub mod Succession
 pub mod Texts
 pub mod Together
+pub mod Verdicts
 pub mod Viewers
 pub mod WaitingStamps
 pub mod Wholes

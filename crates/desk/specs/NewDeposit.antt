@@ -1,9 +1,12 @@
 -- A deposit in its parts: stepping stones of the proofs.
-use Rattle.std.specs.Prelude.{◌≡◌, ℕ, if◌then◌else◌, List, Option, Some, None}
+use Rattle.std.specs.Prelude.{◌≡◌, ℕ, ℤ, if◌then◌else◌, List, Option, Some, None}
 use Rattle.std.specs.Str.{bytes_eq}
+use Rattle.der.specs.Node.{encoding}
 use Rattle.policy.specs.Record.{AccountValue}
+use Rattle.tsp.specs.Request.{RequestValue, time_stamp_req, unstated}
 use Rattle.book.specs.History.{History, deposit_under}
 use Rattle.book.specs.Rows.{DepositRow}
+use Rattle.desk.specs.Batches.{Question}
 use Rattle.desk.specs.Fault.{IsLate}
 use Rattle.desk.specs.declared.findings.Judgement.{Judgement}
 use Rattle.desk.specs.declared.findings.Judgement.TheVariants as found
@@ -29,3 +32,10 @@ IsRejectedLate (begun.Pending p) = Unit {0}
 -- the owner hasn't used the reference
 abbrev pub IsUnused : AccountValue → List ℕ → History → Type 0
 IsUnused owner reference b = deposit_under owner.name reference b ≡ None
+
+-- the octets of a request, in which no FALSE is stated, and the stamp that is asked for by them
+abbrev pub octets_of : RequestValue → List ℕ
+octets_of r = encoding (time_stamp_req unstated r)
+
+abbrev pub question_of : Option AccountValue → ℤ → RequestValue → Question
+question_of account reading r = record { account = account; reading = reading; octets = octets_of r }

@@ -1,141 +1,79 @@
 //! Stamps that are answered together, up to the one commit of their reservations.
-ghost use Rattle.std.specs.Prelude.{◌≡◌, ◌≤◌, ◌<◌, ◌+◌, [], map, length, IfOk, IfErr, vec_capacity, vec_len};
+ghost use Rattle.std.specs.Prelude.{◌≡◌, ◌≤◌, ◌<◌, ◌+◌, [], map, length, IfOk, IfErr, OnErr, vec_capacity, vec_len};
 ghost use Rattle.book.specs.Entries.{entries_view};
 ghost use Rattle.book.specs.Fault.{IsOfStorage};
 ghost use Rattle.book.specs.History.{Reserved};
-ghost use Rattle.tsp.specs.Request.{Spells};
-ghost use Rattle.tsp.specs.View.{request_view};
-ghost use Rattle.desk.specs.Calls.{settings_view, plan_of};
+ghost use Rattle.desk.specs.Beginnings.{Refusal, rule_by};
+ghost use Rattle.desk.specs.Calls.{settings_view};
 ghost use Rattle.desk.specs.Commits.{call_for, IsCommitted};
-ghost use Rattle.desk.specs.Outcome.{Call, Fine};
-ghost use Rattle.desk.specs.Together.{question_view, questions_view, JudgesEach, JudgesOne, AwaitsOne, IsKept};
+ghost use Rattle.desk.specs.Halves.{AreBegun, HasRoom};
+ghost use Rattle.desk.specs.Outcome.{Call, Fine, Outcome};
+ghost use Rattle.desk.specs.Together.{question_view, questions_view};
+ghost use Rattle.desk.specs.Verdicts.{verdict_of, Settled, JudgesEach, JudgesOne};
+ghost use Rattle.desk.specs.Verdicts.{IsKept};
 ghost use Rattle.desk.specs.WaitingStamps.{waiting_view};
-ghost use Rattle.desk.specs.declared.batch_start.Judged.TheVariants as judged;
 
-use crate::batch::{Asked, AskedBatch};
+use crate::batch::Asked;
 use crate::commit::commit;
-use crate::findings::{Judgement, Planned, find};
-use crate::reservation::prepare;
+use crate::fault::Fault;
+use crate::findings::{Judgement, find};
+use crate::pending_batch::{PendingBatch, empty_batch};
+use crate::refusal::StampRefusal;
 use crate::settings::Settings;
-use crate::stamp_start::name_of;
+use crate::stamp_start::{Judged, judge_one};
 use crate::waiting_stamp::{Waiting, reservation_of};
-use book::{Book, Entry, GREATEST_NUMBER, StoreFault};
+use book::{Book, Entry, StoreFault};
 use std::alloc::Global;
 use tsp::Rule;
 
-/// How a stamp of a batch is judged.
-#[derive(Drop)]
-pub(crate) enum Judged<'p, 'a> {
-    /// It is rejected: by the first rule of 1 to 11 that fails, or by rule 12 where a call that it needs was refused.
-    Fails(Rule),
-    /// None fails, and its texts are written.
-    Waits(Waiting<'p, 'a>),
-}
-
-/// Writes the texts of a stamp that no rule refuses.
-fn await_one<'p, 'a>(
-    alloc: Global,
-    settings: Settings<'p>,
-    asked: Asked<'a>,
-    planned: Planned<'p, 'a>,
-) -> Judged<'p, 'a>
-    requires spelled { Spells asked.query.now (request_view planned.request) }
-    requires short { length asked.query.now ≤ 65536 }
-    ensures awaits { AwaitsOne (settings_view settings.entry) (question_view asked.entry) (plan_of planned.entry)
-        planned.entry.last result }
-{
-    if planned.last >= GREATEST_NUMBER {
-        return Judged::Fails(Rule::System);
-    }
-    match prepare(alloc, settings, planned, asked.query) {
-        Ok(prepared) => Judged::Waits(Waiting {
-            account: name_of(asked.account),
-            query: asked.query,
-            prepared,
-        }),
-        Err(_) => Judged::Fails(Rule::System),
-    }
-}
-
-/// Judges one stamp by the history with the reservations of those that wait, and writes its texts where it waits too.
-fn judge_one<'p, 'a, B: Book + Drop>(
-    store: &mut B,
-    alloc: Global,
-    settings: Settings<'p>,
-    waits: &[Waiting<'p, 'a>],
-    asked: Asked<'a>,
-) -> Judged<'p, 'a>
-    ensures judges { JudgesOne B.Standing (settings_view settings.entry) (question_view asked.entry) waits.now result
-        store.old store.new }
-{
-    match find(store, waits, settings.policy, asked) {
-        Ok(Judgement::Fails(rule)) => Judged::Fails(rule),
-        Ok(Judgement::Allows(planned)) => await_one(alloc, settings, asked, planned),
-        Err(_) => Judged::Fails(Rule::System),
-    }
-}
-
 /// Puts a stamp that was judged behind those before it.
 fn keep<'p, 'a>(
-    judged: Judged<'p, 'a>,
+    judged: Result<Judged<'p, 'a>, StampRefusal>,
     verdicts: &mut Vec<Option<Rule>>,
     waits: &mut Vec<Waiting<'p, 'a>>,
 )
     requires room_for_verdict { vec_len verdicts.old < vec_capacity verdicts.old }
     requires room_for_wait { vec_len waits.old < vec_capacity waits.old }
-    ensures kept { IsKept judged.entry verdicts.old.items verdicts.new.items waits.old.items waits.new.items }
+    ensures kept { IsKept (verdict_of judged.entry) verdicts.old.items verdicts.new.items waits.old.items
+        waits.new.items }
     ensures one_verdict { vec_len verdicts.new ≡ vec_len verdicts.old + 1 }
     ensures few_waits { vec_len waits.new ≤ vec_len waits.old + 1 }
     ensures room_for_verdicts { vec_capacity verdicts.new ≡ vec_capacity verdicts.old }
     ensures room_for_waits { vec_capacity waits.new ≡ vec_capacity waits.old }
 {
     match judged {
-        Judged::Fails(rule) => verdicts.push_reserved(Some(rule)),
-        Judged::Waits(waiting) => {
+        Ok(Judged::Fails(rule)) => verdicts.push_reserved(Some(rule)),
+        Ok(Judged::Waits(waiting)) => {
             verdicts.push_reserved(None);
             waits.push_reserved(waiting);
         }
+        Err(_) => verdicts.push_reserved(Some(Rule::System)),
     }
 }
 
 /// Judges each stamp in turn: a rule that it fails, or none, where it waits. The caller has taken the room for both
 /// lists.
-pub(crate) fn judge_each<'p, 'a, B: Book + Drop>(
+fn judge_each<'p, 'a, B: Book + Drop>(
     store: &mut B,
     alloc: Global,
-    batch: AskedBatch<'_, 'p, 'a>,
+    settings: Settings<'p>,
+    asked: &[Asked<'a>],
     verdicts: &mut Vec<Option<Rule>>,
     waits: &mut Vec<Waiting<'p, 'a>>,
 )
     requires none_judged { verdicts.old.items ≡ [] }
     requires none_waits { waits.old.items ≡ [] }
-    requires verdicts_room { length batch.asked.now ≤ vec_capacity verdicts.old }
-    requires waits_room { length batch.asked.now ≤ vec_capacity waits.old }
-    ensures judges { JudgesEach B.Standing (settings_view batch.entry.settings) (questions_view batch.entry.asked.now)
+    requires verdicts_room { length asked.now ≤ vec_capacity verdicts.old }
+    requires waits_room { length asked.now ≤ vec_capacity waits.old }
+    ensures judges { JudgesEach B.Standing (settings_view settings.entry) (questions_view asked.now)
         verdicts.new.items waits.new.items store.old store.new }
-    ensures many { length verdicts.new.items ≡ length batch.entry.asked.now }
-    ensures few { length waits.new.items ≤ length batch.entry.asked.now }
+    ensures many { length verdicts.new.items ≡ length asked.now }
+    ensures few { length waits.new.items ≤ length asked.now }
 {
-    let AskedBatch { settings, asked } = batch;
     for question in asked {
         let judged = judge_one(store, alloc, settings, waits, *question);
         keep(judged, verdicts, waits);
     }
-}
-
-/// The texts to sign. Refused where memory wants.
-fn texts_of<'w>(alloc: Global, waits: &'w [Waiting<'_, '_>]) -> Result<Vec<&'w [u8]>, StoreFault>
-    ensures texts { IfOk result (λ texts. map (λ text. text.now) texts.items
-        ≡ map (λ waiting. waiting.prepared.text.items) waits.now) }
-    ensures refused { IfErr result (λ fault. fault ≡ StoreFault.Memory) }
-{
-    let Ok(mut texts) = Vec::with_capacity(alloc, waits.len()) else {
-        return Err(StoreFault::Memory);
-    };
-    for waiting in waits {
-        texts.push_reserved(waiting.prepared.text.as_slice());
-    }
-    Ok(texts)
 }
 
 /// The reservations of what waits, as entries. Refused where memory wants.
@@ -152,31 +90,28 @@ fn entries_of<'w>(alloc: Global, waits: &'w [Waiting<'_, '_>]) -> Result<Vec<Ent
     Ok(entries)
 }
 
-/// Reserves all that waits in one commit: their texts. All memory that is known to be needed for it is taken before.
-pub(crate) fn reserve_each<'w, B: Book + Drop>(
+/// Reserves all that waits in one commit.
+fn reserve_each<B: Book + Drop>(
     store: &mut B,
     alloc: Global,
-    waits: &'w [Waiting<'_, '_>],
-) -> Result<Vec<&'w [u8]>, StoreFault>
+    waits: &[Waiting<'_, '_>],
+) -> Result<(), StoreFault>
     ensures commits { IsCommitted B.Standing (map Reserved (map waiting_view waits.now)) store.old store.new
         (call_for result) }
     ensures refusals { IfErr result IsOfStorage }
-    ensures texts { IfOk result (λ texts. map (λ text. text.now) texts.items
-        ≡ map (λ waiting. waiting.prepared.text.items) waits.now) }
 {
     if waits.is_empty() {
-        return Ok(Vec::new(alloc));
+        return Ok(());
     }
-    let texts = texts_of(alloc, waits)?;
     let entries = entries_of(alloc, waits)?;
-    commit(store, &entries)?;
-    Ok(texts)
+    commit(store, &entries)
 }
 
 /// The rule by which a stamp is rejected once its reservation was refused: one that it fails, or rule 12.
 fn settle_one<B: Book + Drop>(store: &mut B, settings: Settings<'_>, asked: Asked<'_>) -> Rule
-    ensures judges { (reserving : Call) → (reserving ≡ Fine → ⊥) → JudgesOne B.Standing (settings_view settings.entry)
-        (question_view asked.entry) [] (judged.Fails result) store.old store.new }
+    ensures judges { (reserving : Call) → (reserving ≡ Fine → ⊥) → (why : Refusal) × (o : Outcome)
+        × (result ≡ rule_by why) × JudgesOne B.Standing (settings_view settings.entry) (question_view asked.entry) []
+        (Settled why o) store.old store.new }
 {
     match find(store, &[], settings.policy, asked) {
         Ok(Judgement::Fails(rule)) => rule,
@@ -186,20 +121,59 @@ fn settle_one<B: Book + Drop>(store: &mut B, settings: Settings<'_>, asked: Aske
 }
 
 /// Judges each stamp anew once the commit of the reservations was refused: none waits. The caller has taken the room.
-pub(crate) fn settle_each<B: Book + Drop>(
+fn settle_each<B: Book + Drop>(
     store: &mut B,
-    batch: AskedBatch<'_, '_, '_>,
+    settings: Settings<'_>,
+    asked: &[Asked<'_>],
     verdicts: &mut Vec<Option<Rule>>,
 )
-    requires verdicts_room { length batch.asked.now ≤ vec_capacity verdicts.old }
+    requires verdicts_room { length asked.now ≤ vec_capacity verdicts.old }
     ensures judges { (reserving : Call) → (reserving ≡ Fine → ⊥) → JudgesEach B.Standing
-        (settings_view batch.entry.settings) (questions_view batch.entry.asked.now) verdicts.new.items [] store.old
+        (settings_view settings.entry) (questions_view asked.now) verdicts.new.items [] store.old
         store.new }
-    ensures many { length verdicts.new.items ≡ length batch.entry.asked.now }
+    ensures many { length verdicts.new.items ≡ length asked.now }
 {
-    let AskedBatch { settings, asked } = batch;
     verdicts.truncate(0);
     for question in asked {
         verdicts.push_reserved(Some(settle_one(store, settings, *question)));
     }
+}
+
+/// Begins stamps together: each is judged by the history with the reservations of those before it, and all that no rule
+/// refuses are reserved in one commit, their texts written before it. Where that commit is refused, none waits. Room for
+/// all that is written until they are answered is taken first: where it is refused, nothing is done.
+pub(crate) fn begin_each<'p, 'a, B: Book + Drop>(
+    store: &mut B,
+    alloc: Global,
+    settings: Settings<'p>,
+    asked: &[Asked<'a>],
+) -> Result<PendingBatch<'p, 'a>, Fault>
+    ensures honest { B.honest store.new → B.honest store.old }
+    ensures memory { IfErr result (λ fault. fault ≡ Fault.Memory) }
+    ensures unmoved { OnErr result (store.new ≡ store.old) }
+    ensures begins { IfOk result (λ pending. AreBegun B.Standing (settings_view settings.entry)
+        (questions_view asked.now) pending.verdicts.items pending.waits.items store.old store.new) }
+    ensures keeps { IfOk result (λ pending. pending.settings ≡ settings.entry) }
+    ensures room { IfOk result HasRoom }
+    ensures few { IfOk result (λ pending. length pending.waits.items ≤ length asked.now) }
+{
+    let PendingBatch {
+        settings: _,
+        mut verdicts,
+        mut waits,
+        written,
+        replies,
+    } = empty_batch(alloc, settings, asked.len())?;
+    judge_each(store, alloc, settings, asked, &mut verdicts, &mut waits);
+    if reserve_each(store, alloc, &waits).is_err() {
+        settle_each(store, settings, asked, &mut verdicts);
+        waits.clear();
+    }
+    Ok(PendingBatch {
+        settings,
+        verdicts,
+        waits,
+        written,
+        replies,
+    })
 }

@@ -140,9 +140,9 @@ pub(crate) fn look_among<B: Book + Drop>(
                 reading,
                 calibration: looked.clock.calibration,
                 held: looked.clock.held,
-                last_gen_time: Some(moment_of(last.prepared.gen_time)),
+                last_gen_time: Some(moment_of(last.gen_time)),
             },
-            serial: last.prepared.serial,
+            serial: last.unsigned.serial,
         }),
     }
 }

@@ -1,6 +1,6 @@
-//! One commit of entries.
-ghost use Rattle.std.specs.Prelude.{IfErr};
-ghost use Rattle.book.specs.Entries.{entries_view};
+//! Commits of entries.
+ghost use Rattle.std.specs.Prelude.{[], ◌∷◌, IfErr};
+ghost use Rattle.book.specs.Entries.{entries_view, entry_view, Appends};
 ghost use Rattle.book.specs.Fault.{IsOfStorage};
 ghost use Rattle.desk.specs.Commits.{call_for, IsCommitted};
 
@@ -15,4 +15,12 @@ pub(crate) fn commit<B: Book + Drop>(store: &mut B, entries: &[Entry<'_>]) -> Re
         return Ok(());
     }
     store.append(entries)
+}
+
+/// Adds an entry, in a commit of its own.
+pub(crate) fn add<B: Book + Drop>(store: &mut B, added: Entry<'_>) -> Result<(), StoreFault>
+    ensures appends { Appends B.Standing (entry_view added.entry ∷ []) store.old store.new result }
+    ensures refusals { IfErr result IsOfStorage }
+{
+    store.append(&[added])
 }

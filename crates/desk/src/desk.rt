@@ -19,6 +19,7 @@ ghost use Rattle.desk.specs.contracts.desk.Desk.{the_row as desk_row};
 
 use crate::batch::Asked;
 use crate::fault::Fault;
+use crate::keeping::Keeping;
 use crate::laws::steps_keep_their_promises;
 use crate::pending::Pending;
 use crate::reply::{Begun, Reply};
@@ -27,6 +28,7 @@ use crate::stamp::answer_with;
 use crate::stamp_end::finish_with;
 use crate::stamp_start::begin_with;
 use crate::succession::install;
+use crate::unsigned_token::reply_with;
 use book::Book;
 use cms::Signer;
 use policy::{Account, Policy};
@@ -53,10 +55,11 @@ impl<'p, B: Book + Drop> Model for Desk<'p, B> {
     ghost coded = { desk_code B.code };
 
     ghost use Rattle.desk.specs.Calls.{settings_view};
+    ghost use Rattle.desk.specs.MachineRuns.{IsProper};
 
     ghost view = { λ desk. record { setting = settings_view desk.settings; store = desk.store } };
 
-    ghost invariant = { λ desk. Unit {0} };
+    ghost invariant = { λ desk. IsProper (settings_view desk.settings) };
 }
 
 impl<'p, B: Book + Drop> Desk<'p, B> {
@@ -167,7 +170,14 @@ impl<'p, B: Book + Drop> Desk<'p, B> {
             (answered reply_as result) }
     {
         steps_keep_their_promises();
-        Ok(finish_with(&mut self.store, self.alloc, pending, signature)?)
+        let kept = finish_with(
+            &mut self.store,
+            self.alloc,
+            pending,
+            signature,
+            Keeping::Seal,
+        )?;
+        Ok(reply_with(kept))
     }
 
     /// Leaves the reservation of a pending stamp void. The caller's condition is that of `finish`. Takes no memory.

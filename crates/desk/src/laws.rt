@@ -33,10 +33,18 @@ ghost use Rattle.desk.specs.Names.{IsNameableFor};
 ghost use Rattle.desk.specs.Succession.{IsInForce, IsNameable};
 ghost use Rattle.desk.specs.Viewers.{viewer_in};
 
-use book::histories_show_the_same;
+use crate::desk::Desk;
+use book::{Book, histories_show_the_same};
 use cms::Signer;
 use decide::good_clocks_keep_the_accuracy;
 use tsp::requests_have_one_reading;
+
+/// A desk's setting is proper.
+pub fn desks_are_proper<B: Book + Drop>(desk: &Desk<'_, B>)
+    ensures { IsProper desk.now.setting }
+{
+    let _settings = desk.settings;
+}
 
 /// A command leaves a history that is sound in full so, and so does a stop in the midst of it.
 pub fn steps_leave_sound_histories()

@@ -14,10 +14,12 @@ mod deposits;
 mod desk;
 mod fault;
 mod findings;
+mod keeping;
 mod laws;
 mod new_deposit;
 mod obstacle;
 mod pending;
+mod pending_batch;
 mod refusal;
 mod reply;
 mod reservation;
@@ -29,6 +31,7 @@ mod stamp;
 mod stamp_end;
 mod stamp_start;
 mod succession;
+mod unsigned_token;
 mod waiting_stamp;
 
 pub use batch::Asked;
@@ -42,10 +45,10 @@ pub use desk::Desk;
 pub use fault::Fault;
 pub use laws::{
     accounts_are_isolated, accounts_disturb_little, batches_are_runs, batches_stop_as_runs,
-    commands_have_one_effect, deposits_are_shown_exactly, grants_are_of_their_plan,
-    journeys_keep_their_promises, plans_keep_their_moment, rejections_tell_their_rule,
-    steps_keep_their_promises, steps_leave_sound_histories, successions_bring_their_identity,
-    texts_are_reserved,
+    commands_have_one_effect, deposits_are_shown_exactly, desks_are_proper,
+    grants_are_of_their_plan, journeys_keep_their_promises, plans_keep_their_moment,
+    rejections_tell_their_rule, steps_keep_their_promises, steps_leave_sound_histories,
+    successions_bring_their_identity, texts_are_reserved,
 };
 pub use pending::Pending;
 pub use reply::{Begun, Deposited, Reply};

@@ -1,37 +1,37 @@
 //! A deposit: its stamp, and both in one commit.
-ghost use Rattle.std.specs.Prelude.{◌≡◌, ◌⊎◌, ℕ, ◌<◌, ◌≤◌, List, Some, Ok, Err, Result, length, IfOk, IfErr};
-ghost use Rattle.std.specs.Prelude.{OnOk};
-ghost use Rattle.cms.specs.declared.signer.SignerFault.{SignerFault as SpecFault};
-ghost use Rattle.der.specs.Node.{encoding, IsLawful};
+ghost use Rattle.std.specs.Prelude.{◌≡◌, ◌<◌, ◌≤◌, Err, length, IfOk, IfErr};
+ghost use Rattle.der.specs.Node.{IsLawful};
 ghost use Rattle.policy.specs.View.{account_view, policy_view};
 ghost use Rattle.tsp.specs.Request.{Spells, time_stamp_req, unstated};
+ghost use Rattle.tsp.specs.Rules.{HasVersionOne};
 ghost use Rattle.tsp.specs.View.{request_view};
+ghost use Rattle.decide.specs.View.{account_asked};
 ghost use Rattle.book.specs.Fault.{CountsFaults, IsOfStorage};
-ghost use Rattle.book.specs.History.{History, deposit_under, greatest_serial};
-ghost use Rattle.book.specs.Sound.{greatest_number};
+ghost use Rattle.book.specs.History.{History, deposit_under};
 ghost use Rattle.book.specs.Stands.{Stands, OnlyLooks};
-ghost use Rattle.desk.specs.Answers.{answered, begun_as, ended_as, told};
-ghost use Rattle.desk.specs.CallContract.{IsBareStep, StepsBy, StepsWhere, no_signer, with_signer};
-ghost use Rattle.desk.specs.Calls.{outcome_of, settings_view, plan_of, IsOfBeginning, IsOfReserving, Reserves};
-ghost use Rattle.desk.specs.Command.{Begin, Deposit};
+ghost use Rattle.desk.specs.Answers.{answered};
+ghost use Rattle.desk.specs.Beginnings.{Begins, IsUnwritten};
+ghost use Rattle.desk.specs.CallContract.{IsBareStep, StepsWhere, with_signer};
+ghost use Rattle.desk.specs.Calls.{settings_view};
+ghost use Rattle.desk.specs.Command.{Deposit};
 ghost use Rattle.desk.specs.Fault.{IsOfDeposit};
-ghost use Rattle.desk.specs.Effects.{in_deposit};
-ghost use Rattle.desk.specs.NewDeposit.{known_in, IsRejectedLate, IsUnused};
-ghost use Rattle.desk.specs.Outcome.{Outcome, faults_after};
+ghost use Rattle.desk.specs.NewDeposit.{known_in, octets_of, question_of, IsRejectedLate, IsUnused};
+ghost use Rattle.desk.specs.Outcome.{Outcome};
 ghost use Rattle.desk.specs.Shown.{deposited_as};
-ghost use Rattle.desk.specs.Texts.{gives_certificate, octets_for, request_for};
-ghost use Rattle.desk.specs.Wholes.{Ends, Completes};
+ghost use Rattle.desk.specs.Texts.{gives_certificate};
 
 use crate::fault::Fault;
 use crate::findings::{Judgement, Planned, Requested, judge};
+use crate::keeping::Keeping;
 use crate::obstacle::Obstacle;
-use crate::pending::Pending;
 use crate::refusal::StampRefusal;
 use crate::reply::{Begun, Deposited};
-use crate::reservation::{NextStamp, reserve_next};
+use crate::reservation::{prepare, reserve};
 use crate::settings::Settings;
+use crate::stamp_end::complete;
+use crate::stamp_start::name_of;
 use book::{Book, GREATEST_NUMBER, StoreFault};
-use cms::{Signer, token};
+use cms::Signer;
 use policy::{Account, Policy};
 use sha2::{Digest, Sha256};
 use std::alloc::Global;
@@ -96,10 +96,8 @@ fn gives_certificate(policy: &Policy, account: &Account) -> bool
 /// The octets of a request that no rule refuses, where a serial number is left.
 fn octets_of(alloc: Global, planned: &Planned<'_, '_>) -> Result<Vec<u8>, StampRefusal>
     requires { IsLawful (time_stamp_req unstated (request_view planned.now.request)) }
-    ensures octets { IfOk result (λ octets. octets.items
-        ≡ encoding (time_stamp_req unstated (request_view planned.now.request))) }
-    ensures left { IfErr result (λ refusal. ((refusal ≡ StampRefusal.Exhausted) × (greatest_number ≤ planned.now.last))
-        ⊎ ((refusal ≡ StampRefusal.OutOfMemory) × (planned.now.last < greatest_number))) }
+    ensures octets { IfOk result (λ octets. octets.items ≡ octets_of (request_view planned.now.request)) }
+    ensures unwritten { IfErr result (IsUnwritten planned.now.last) }
 {
     if planned.last >= GREATEST_NUMBER {
         return Err(StampRefusal::Exhausted);
@@ -107,143 +105,36 @@ fn octets_of(alloc: Global, planned: &Planned<'_, '_>) -> Result<Vec<u8>, StampR
     write_request(alloc, &planned.request).map_err(|_| StampRefusal::OutOfMemory)
 }
 
-/// Reserves the next serial number for the request without its stated FALSEs: `reserve_next` on the octets that are
-/// written first.
-fn reserve<'p, B: Book + Drop>(
-    store: &mut B,
-    alloc: Global,
-    settings: Settings<'p>,
-    account: &str,
-    planned: Planned<'p, '_>,
-) -> Result<Pending<'p>, StampRefusal>
-    requires spelled { Spells (encoding (time_stamp_req unstated (request_view planned.request)))
-        (request_view planned.request) }
-    requires short { length (encoding (time_stamp_req unstated (request_view planned.request))) ≤ 65536 }
-    ensures honest { B.honest store.new → B.honest store.old }
-    ensures opened { B.honest store.new → OnOk result (B.is_open store.new) }
-    ensures counted { B.fault_count store.new ≡ faults_after (outcome_of result) (B.fault_count store.old) }
-    ensures reserves { B.honest store.new → (b : History) → Stands B.Standing b store.old
-        → greatest_serial b ≡ planned.entry.last
-        → Reserves B.Standing (settings_view settings.entry) account.now (plan_of planned.entry)
-        (encoding (time_stamp_req unstated (request_view planned.entry.request))) b store.old store.new result }
-    ensures refusals { IfErr result IsOfReserving }
-{
-    requests_have_one_reading();
-    let octets = octets_of(alloc, &planned)?;
-    let next = NextStamp {
-        account,
-        query: &octets,
-        planned,
-    };
-    reserve_next(store, alloc, settings, next)
-}
-
-/// Judges the request as which a deposit is stamped, and reserves the next serial number where no rule fails. The
-/// octets of the deposit are hashed here, and nowhere else.
+/// Judges a request that no octets are sent of, and reserves the next serial number where no rule fails: its octets are
+/// written then, without its stated FALSEs.
 fn begin<'p, B: Book + Drop>(
     store: &mut B,
     alloc: Global,
     settings: Settings<'p>,
-    submission: Submission<'_>,
+    requested: Requested<'_, '_>,
 ) -> Result<Begun<'p>, StampRefusal>
+    requires spelled { Spells (octets_of (request_view requested.request)) (request_view requested.request) }
+    requires short { length (octets_of (request_view requested.request)) ≤ 65536 }
     ensures honest { B.honest store.new → B.honest store.old }
-    ensures step { StepsBy B.Standing no_signer (settings_view settings.entry)
-        (Begin (Some (account_view submission.entry.account.now)) submission.entry.reading
-        (octets_for (policy_view settings.entry.policy.now) (account_view submission.entry.account.now)
-        submission.entry.bytes.now))
-        (outcome_of result) store.old store.new (told begun_as result) }
-    ensures spelled { Spells (octets_for (policy_view settings.entry.policy.now)
-        (account_view submission.entry.account.now) submission.entry.bytes.now)
-        (request_for (policy_view settings.entry.policy.now) (account_view submission.entry.account.now)
-        submission.entry.bytes.now) }
-    ensures late { IfOk result IsRejectedLate }
-    ensures refusals { IfErr result IsOfBeginning }
+    ensures begins { Begins B.Standing (settings_view settings.entry) (question_of
+        (account_asked requested.entry.account) requested.entry.reading (request_view requested.entry.request)) result
+        store.old store.new }
+    ensures late { HasVersionOne (request_view requested.entry.request) → IfOk result IsRejectedLate }
 {
-    let policy = settings.policy;
-    let account = submission.account;
-    let digest = Sha256::digest(submission.bytes);
-    let request = Request::of_sha256(&digest, gives_certificate(policy, account));
-    let requested = Requested {
-        account: Some(account),
-        reading: submission.reading,
-        request,
-    };
-    match judge(store, &[], policy, requested)? {
+    requests_have_one_reading();
+    let account = name_of(requested.account);
+    match judge(store, &[], settings.policy, requested)? {
         Judgement::Fails(rule) => Ok(Begun::Rejected(Rejection::of(rule))),
         Judgement::Allows(planned) => {
-            let pending = reserve(store, alloc, settings, account.name.as_str(), planned)?;
-            Ok(Begun::Pending(pending))
+            let octets = octets_of(alloc, &planned)?;
+            let waiting = prepare(alloc, settings, account, &octets, planned)?;
+            Ok(Begun::Pending(reserve(store, settings, waiting)?))
         }
     }
 }
 
-/// Stores a deposit with its token over a signature, in one commit. The token's memory is taken before.
-fn seal<B: Book + Drop>(
-    store: &mut B,
-    alloc: Global,
-    pending: Pending<'_>,
-    signature: &[u8],
-    submission: Submission<'_>,
-) -> Result<Deposited, StampRefusal>
-    requires some { 1 ≤ length signature.now }
-    requires few { length signature.now ≤ 4096 }
-    ensures honest { B.honest store.new → B.honest store.old }
-    ensures ends { Ends B.Standing (in_deposit (account_view submission.entry.account.now).name
-        submission.entry.reference.now submission.entry.bytes.now) pending.entry (Ok signature.now) (outcome_of result)
-        store.old store.new (ended_as deposited_as result) }
-{
-    let Pending {
-        serial,
-        tst,
-        text: _,
-        certificate,
-        identity,
-        algorithm,
-    } = pending;
-    let Ok(token) = token(alloc, identity, algorithm, &tst, signature, certificate) else {
-        return Err(StampRefusal::OutOfReplyMemory);
-    };
-    let owner = submission.account.name.as_str();
-    store
-        .seal_deposit(
-            serial,
-            &token,
-            owner,
-            submission.reference,
-            submission.bytes,
-        )
-        .map_err(StampRefusal::Sealing)?;
-    Ok(Deposited {
-        number: serial,
-        is_new: true,
-    })
-}
-
-/// Has the text of a reservation signed, and stores the deposit with its token. Where the signer, memory or the store
-/// refuses, the reservation stays void.
-fn sign_and_seal<B: Book + Drop, X: Signer>(
-    store: &mut B,
-    alloc: Global,
-    pending: Pending<'_>,
-    submission: Submission<'_>,
-    signer: &mut X,
-) -> Result<Deposited, StampRefusal>
-    ensures honest { B.honest store.new → B.honest store.old }
-    ensures completes { (signing : Result (List ℕ) SpecFault) × (o : Outcome)
-        × Completes B.Standing (with_signer X.signs X.fault_count signer.old signer.new)
-        (in_deposit (account_view submission.entry.account.now).name submission.entry.reference.now
-        submission.entry.bytes.now) pending.entry signing o store.old store.new (ended_as deposited_as result) }
-{
-    match signer.sign(pending.text()) {
-        Ok(signature) => seal(store, alloc, pending, &signature, submission),
-        Err(fault) => {
-            pending.abandon();
-            Err(StampRefusal::Signing(fault))
-        }
-    }
-}
-
-/// Stamps and stores a deposit whose owner hasn't used the reference.
+/// Stamps and stores a deposit whose owner hasn't used the reference. The octets of the deposit are hashed here, and
+/// nowhere else.
 fn deposit_new<B: Book + Drop, X: Signer>(
     store: &mut B,
     alloc: Global,
@@ -260,9 +151,25 @@ fn deposit_new<B: Book + Drop, X: Signer>(
         (IsUnused (account_view submission.entry.account.now) submission.entry.reference.now) o store.old store.new
         (answered deposited_as result) }
 {
-    match begin(store, alloc, settings, submission)? {
+    let policy = settings.policy;
+    let account = submission.account;
+    let digest = Sha256::digest(submission.bytes);
+    let request = Request::of_sha256(&digest, gives_certificate(policy, account));
+    let requested = Requested {
+        account: Some(account),
+        reading: submission.reading,
+        request,
+    };
+    match begin(store, alloc, settings, requested)? {
         Begun::Rejected(rejection) => Err(Fault::Rejected(rejection.rule)),
-        Begun::Pending(pending) => Ok(sign_and_seal(store, alloc, pending, submission, signer)?),
+        Begun::Pending(pending) => {
+            let keeping = Keeping::Deposit(submission);
+            let kept = complete(store, alloc, pending, keeping, signer)?;
+            Ok(Deposited {
+                number: kept.serial,
+                is_new: true,
+            })
+        }
     }
 }
 

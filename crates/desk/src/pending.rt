@@ -1,13 +1,11 @@
+use crate::unsigned_token::UnsignedToken;
 use cms::{Algorithm, Identity};
 use std::marker::Model;
 
 /// A reservation that waits for its signature. It has to be spent, by `finish` or by `abandon` of the desk that
 /// answered it, and keeps the identity and the algorithm of its `begin`.
 pub struct Pending<'p> {
-    pub(crate) serial: u64,
-    pub(crate) tst: Vec<u8>,
-    pub(crate) text: Vec<u8>,
-    pub(crate) certificate: bool,
+    pub(crate) unsigned: UnsignedToken,
     pub(crate) identity: &'p Identity,
     pub(crate) algorithm: &'p Algorithm,
 }
@@ -16,18 +14,13 @@ impl<'p> Model for Pending<'p> {
     ghost use Rattle.std.specs.Prelude.{◌≡◌};
     ghost use Rattle.cms.specs.SignedData.{attribute_text};
     ghost use Rattle.desk.specs.Command.{PendingValue};
+    ghost use Rattle.desk.specs.WaitingStamps.{pending_by};
 
     ghost Value = { PendingValue };
 
-    ghost view = { λ p. record {
-      serial = p.serial;
-      tst = p.tst.items;
-      certificate = p.certificate;
-      identity = p.identity.now;
-      algorithm = p.algorithm.now;
-    } };
+    ghost view = { λ p. pending_by p.identity.now p.algorithm.now p.unsigned };
 
-    ghost invariant = { λ p. p.text.items ≡ attribute_text p.identity.now p.tst.items };
+    ghost invariant = { λ p. p.unsigned.text.items ≡ attribute_text p.identity.now p.unsigned.tst.items };
 }
 
 impl<'p> Pending<'p> {
@@ -38,16 +31,13 @@ impl<'p> Pending<'p> {
     pub fn text(&self) -> &[u8]
         ensures { result.now ≡ attribute_text self.now.identity self.now.tst }
     {
-        &self.text
+        &self.unsigned.text
     }
 
     /// Leaves the reservation void.
     pub(crate) fn abandon(self) {
         let Pending {
-            serial: _,
-            tst: _,
-            text: _,
-            certificate: _,
+            unsigned: _,
             identity: _,
             algorithm: _,
         } = self;

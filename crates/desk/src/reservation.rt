@@ -1,44 +1,28 @@
 //! How a stamp is reserved.
-ghost use Rattle.std.specs.Prelude.{◌≡◌, ◌≤◌, ◌+◌, [], ◌∷◌, length, option_map, Ok, IfOk, IfErr, IfSome, OnOk};
+ghost use Rattle.std.specs.Prelude.{◌≡◌, ◌≤◌, length, option_map, IfOk, IfErr, IfSome};
 ghost use Rattle.gentime.specs.GenTime.{last_moment};
 ghost use Rattle.der.specs.DataValueView.{value_view};
 ghost use Rattle.tsp.specs.Request.{Spells};
 ghost use Rattle.tsp.specs.Tst.{IsTsaName};
 ghost use Rattle.tsp.specs.View.{request_view};
-ghost use Rattle.book.specs.Entries.{Appends};
-ghost use Rattle.book.specs.Fault.{IsOfStorage};
-ghost use Rattle.book.specs.History.{History, Reserved, greatest_serial};
-ghost use Rattle.book.specs.Sound.{greatest_number};
-ghost use Rattle.book.specs.Stands.{Stands};
-ghost use Rattle.book.specs.Values.{reservation_view};
-ghost use Rattle.desk.specs.Outcome.{faults_after};
-ghost use Rattle.desk.specs.Calls.{outcome_of, plan_of, settings_view, IsPrepared, IsOfReserving};
-ghost use Rattle.desk.specs.Calls.{Reserves};
+ghost use Rattle.desk.specs.Calls.{plan_of, settings_view};
+ghost use Rattle.desk.specs.Beginnings.{WaitsFor, IsUnwritten, IsReserved};
 ghost use Rattle.desk.specs.Succession.{tsa_of};
+ghost use Rattle.desk.specs.WaitingStamps.{HasText};
 
+use crate::commit::add;
 use crate::findings::Planned;
 use crate::pending::Pending;
 use crate::refusal::StampRefusal;
 use crate::settings::Settings;
-use book::{Book, Entry, GREATEST_NUMBER, Reservation, StoreFault};
+use crate::unsigned_token::UnsignedToken;
+use crate::waiting_stamp::{Waiting, reservation_of};
+use book::{Book, Entry, GREATEST_NUMBER};
 use cms::attribute_text;
-use der::{DataValue, Oid};
+use der::DataValue;
 use gentime::GenTime;
 use std::alloc::Global;
 use tsp::{ObjectIdentifier, requests_have_one_reading, write_tst};
-
-/// A stamp whose texts are written.
-#[derive(Drop)]
-pub(crate) struct Prepared<'p, 'a> {
-    pub(crate) serial: u64,
-    pub(crate) gen_time: u64,
-    pub(crate) policy: &'p Oid,
-    pub(crate) algorithm: &'a [u8],
-    pub(crate) digest: &'a [u8],
-    pub(crate) certificate: bool,
-    pub(crate) tst: Vec<u8>,
-    pub(crate) text: Vec<u8>,
-}
 
 /// The microseconds of a genTime since 1970-01-01T00:00:00Z.
 fn micros_of(gen_time: GenTime) -> u64
@@ -66,15 +50,15 @@ fn name_in_force<'p>(settings: Settings<'p>) -> Option<DataValue<'p>>
 pub(crate) fn prepare<'p, 'a>(
     alloc: Global,
     settings: Settings<'p>,
-    planned: Planned<'p, 'a>,
+    account: &'a str,
     query: &'a [u8],
-) -> Result<Prepared<'p, 'a>, StampRefusal>
+    planned: Planned<'p, 'a>,
+) -> Result<Waiting<'p, 'a>, StampRefusal>
     requires spelled { Spells query.now (request_view planned.request) }
     requires short { length query.now ≤ 65536 }
-    requires left { planned.last + 1 ≤ greatest_number }
-    ensures prepared { IfOk result (IsPrepared (settings_view settings.entry) (plan_of planned.entry)
-        (planned.entry.last + 1)) }
-    ensures memory { IfErr result (λ refusal. refusal ≡ StampRefusal.OutOfMemory) }
+    ensures waits { IfOk result (WaitsFor (settings_view settings.entry) account.now (plan_of planned.entry) query.now
+        planned.entry.last) }
+    ensures unwritten { IfErr result (IsUnwritten planned.entry.last) }
 {
     requests_have_one_reading();
     let Planned {
@@ -83,6 +67,9 @@ pub(crate) fn prepare<'p, 'a>(
         gen_time,
         last,
     } = planned;
+    if last >= GREATEST_NUMBER {
+        return Err(StampRefusal::Exhausted);
+    }
     let serial = last + 1;
     let algorithm = request.algorithm();
     let digest = request.hash();
@@ -104,77 +91,36 @@ pub(crate) fn prepare<'p, 'a>(
     let Ok(text) = attribute_text(alloc, settings.identity, &tst) else {
         return Err(StampRefusal::OutOfMemory);
     };
-    Ok(Prepared {
-        serial,
+    Ok(Waiting {
+        account,
+        query,
         gen_time: micros,
         policy,
         algorithm,
         digest,
-        certificate,
-        tst,
-        text,
+        unsigned: UnsignedToken {
+            serial,
+            tst,
+            text,
+            certificate,
+        },
     })
 }
 
-/// The stamp that is reserved next, which no rule refuses: for whom, the octets of its request, and its plan.
-#[derive(Drop)]
-pub(crate) struct NextStamp<'n, 'p, 'a> {
-    pub(crate) account: &'n str,
-    pub(crate) query: &'a [u8],
-    pub(crate) planned: Planned<'p, 'a>,
-}
-
-/// Adds the reservation of a serial number above the greatest, which is known to be left.
-fn add<B: Book + Drop>(store: &mut B, reservation: &Reservation<'_>) -> Result<(), StoreFault>
-    ensures appends { Appends B.Standing (Reserved (reservation_view reservation.now) ∷ []) store.old store.new result }
-    ensures refusals { IfErr result IsOfStorage }
-{
-    store.append(&[Entry::Reserved(*reservation)])
-}
-
-/// Reserves the next serial number for a stamp that no rule refuses. Once the reservation is committed it succeeds.
-pub(crate) fn reserve_next<'p, B: Book + Drop>(
+/// Reserves what waits. Once the reservation is committed it succeeds.
+pub(crate) fn reserve<'p, B: Book + Drop>(
     store: &mut B,
-    alloc: Global,
     settings: Settings<'p>,
-    next: NextStamp<'_, 'p, '_>,
+    waiting: Waiting<'p, '_>,
 ) -> Result<Pending<'p>, StampRefusal>
-    requires spelled { Spells next.query.now (request_view next.planned.request) }
-    requires short { length next.query.now ≤ 65536 }
+    requires text { HasText (settings_view settings) waiting }
     ensures honest { B.honest store.new → B.honest store.old }
-    ensures opened { B.honest store.new → OnOk result (B.is_open store.new) }
-    ensures counted { B.fault_count store.new ≡ faults_after (outcome_of result) (B.fault_count store.old) }
-    ensures reserves { B.honest store.new → (b : History) → Stands B.Standing b store.old
-        → greatest_serial b ≡ next.entry.planned.last
-        → Reserves B.Standing (settings_view settings.entry) next.entry.account.now (plan_of next.entry.planned)
-        next.entry.query.now b store.old store.new result }
-    ensures refusals { IfErr result IsOfReserving }
+    ensures reserves { IsReserved B.Standing (settings_view settings.entry) waiting.entry result store.old store.new }
 {
-    let NextStamp {
-        account,
-        query,
-        planned,
-    } = next;
-    if planned.last >= GREATEST_NUMBER {
-        return Err(StampRefusal::Exhausted);
-    }
-    let prepared = prepare(alloc, settings, planned, query)?;
-    let reservation = Reservation {
-        serial: prepared.serial,
-        account,
-        gen_time: prepared.gen_time,
-        policy: prepared.policy.content(),
-        algorithm: prepared.algorithm,
-        digest: prepared.digest,
-        request: query,
-        tst: &prepared.tst,
-    };
-    add(store, &reservation).map_err(StampRefusal::Adding)?;
+    let reservation = reservation_of(&waiting);
+    add(store, Entry::Reserved(reservation)).map_err(StampRefusal::Adding)?;
     Ok(Pending {
-        serial: prepared.serial,
-        tst: prepared.tst,
-        text: prepared.text,
-        certificate: prepared.certificate,
+        unsigned: waiting.unsigned,
         identity: settings.identity,
         algorithm: settings.algorithm,
     })

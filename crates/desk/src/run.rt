@@ -18,7 +18,7 @@ use crate::new_deposit::{Submission, deposit_with};
 use crate::obstacle::Obstacle;
 use crate::reply::Deposited;
 use crate::rights::{grant_by, revoke_by};
-use crate::settings::{Settings, is_proper};
+use crate::settings::{Settings, has_subject};
 use crate::sight::{list_to, show_to, token_to};
 use crate::stamp::answer_with;
 use crate::succession::succeed_by;
@@ -238,9 +238,8 @@ impl<'p, B: Book + Drop> Desk<'p, B> {
     {
         requests_have_one_reading();
         let settings = self.settings;
-        is_proper(settings);
         let (answers, after) = obey_each(&mut self.store, self.alloc, settings, commands, signer)?;
-        is_proper(after);
+        has_subject(after.identity);
         self.settings = after;
         Ok(answers)
     }

@@ -1,13 +1,14 @@
 use Rattle.std.proofs.Common.{◌+◌, ◌≤◌, ◌∙◌, [], length, take, sym, ap, subst, arith, rules}
 use Rattle.std.proofs.lemmas.List.{take_all}
 use Rattle.desk.specs.Calls.{settings_view}
-use Rattle.desk.specs.Together.{question_view, questions_view, JudgesEach, JudgesOne}
+use Rattle.desk.specs.Together.{question_view, questions_view}
+use Rattle.desk.specs.Verdicts.{verdict_of, JudgesEach, JudgesOne}
 use Rattle.desk.proofs.BatchJudgement.{asked_more, judges_none, judges_next}
 use Rattle.desk.proofs.batch_start.judge_each.Goals as goal
 
 pub loop-question-init : goal.loop-question-init
 loop-question-init g c =
-    let s = settings_view c.args.batch.settings in
+    let s = settings_view c.args.settings in
     let store = c.args.store.now in
     record {
       many = search rules;
@@ -22,9 +23,9 @@ loop-question-init g c =
 
 pub loop-question-preserved : goal.loop-question-preserved
 loop-question-preserved g c =
-    let s = settings_view c.args.batch.settings in
+    let s = settings_view c.args.settings in
     let l = c.loop-question in
-    let asked = c.args.batch.asked.now in
+    let asked = c.args.asked.now in
     let i = l.question-index in
     let q = c.question-item.result in
     let keep = c.keep in
@@ -36,17 +37,18 @@ loop-question-preserved g c =
       judges = subst (λ qs. JudgesEach g.B.Standing s qs keep.new.verdicts.items keep.new.waits.items c.args.store.now
           c.judge_one-judged.new.store) (asked_more asked i q c.loop-question-test.true c.question-item.is)
           (judges_next g.B.Standing s (questions_view (take i asked)) (question_view q) l.verdicts.items
-          keep.new.verdicts.items l.waits.items keep.new.waits.items c.judge_one-judged.result c.args.store.now l.store
+          keep.new.verdicts.items l.waits.items keep.new.waits.items (verdict_of c.judge_one-judged.result)
+          c.args.store.now l.store
           c.judge_one-judged.new.store l.invariant.judges
-          (subst (λ ws. JudgesOne g.B.Standing s (question_view q) ws c.judge_one-judged.result l.store
+          (subst (λ ws. JudgesOne g.B.Standing s (question_view q) ws (verdict_of c.judge_one-judged.result) l.store
           c.judge_one-judged.new.store) c.deref.ensures.value c.judge_one-judged.ensures.judges) keep.ensures.kept);
     }
 
 pub returns : goal.returns
 returns g c =
-    let s = settings_view c.args.batch.settings in
+    let s = settings_view c.args.settings in
     let l = c.loop-question in
-    let asked = c.args.batch.asked.now in
+    let asked = c.args.asked.now in
     record {
       judges = subst (λ qs. JudgesEach g.B.Standing s (questions_view qs) l.verdicts.items l.waits.items
           c.args.store.now l.store) (take_all l.question-index asked c.loop-question-test.false) l.invariant.judges;

@@ -5,17 +5,9 @@ use Rattle.desk.specs.WaitingStamps.{waiting_view}
 use Rattle.desk.proofs.Committed.{some_of_both, unmet}
 use Rattle.desk.proofs.batch_start.reserve_each.Goals as goal
 
-pub returns-in_err-texts-clause-commits : goal.returns-in_err-texts-clause-commits
-returns-in_err-texts-clause-commits g c =
-    let told = err_from_is_err_and c.from_residual.result c.from_residual.ensures.1 in
-    let waits = c.args.waits.now in
-    let some = some_of_both Reserved waiting_view waits (sym c.is_empty.ensures ∙ c.if-is_empty.false) in
-    rw (told.1, told.2) (unmet g.B.Standing (map Reserved (map waiting_view waits)) c.args.store.now
-    c.in_err-texts.field-0.0 some c.in_err-texts.ensures.refused)
-
 pub returns-in_err-entries-clause-commits : goal.returns-in_err-entries-clause-commits
 returns-in_err-entries-clause-commits g c =
-    let told = err_from_is_err_and c.from_residual-in_err-entries.result c.from_residual-in_err-entries.ensures.1 in
+    let told = err_from_is_err_and c.from_residual.result c.from_residual.ensures.1 in
     let waits = c.args.waits.now in
     let some = some_of_both Reserved waiting_view waits (sym c.is_empty.ensures ∙ c.if-is_empty.false) in
     rw (told.1, told.2) (unmet g.B.Standing (map Reserved (map waiting_view waits)) c.args.store.now

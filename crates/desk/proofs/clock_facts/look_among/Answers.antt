@@ -8,9 +8,9 @@ returns-in-Some-clause-value g c honest b s sound =
     let reading : SFits w64 c.args.reading = search rules in
     let looked = c.in_ok-looked.looked in
     let last = c.in-Some.last.now in
-    ap (λ x. looked_by x looked.clock.calibration looked.clock.held (Some c.moment_of.result) last.prepared.serial)
+    ap (λ x. looked_by x looked.clock.calibration looked.clock.held (Some c.moment_of.result) last.unsigned.serial)
     (to_z-of_z reading)
-    ∙ (ap (λ m. looked_by c.args.reading looked.clock.calibration looked.clock.held (Some m) last.prepared.serial)
+    ∙ (ap (λ m. looked_by c.args.reading looked.clock.calibration looked.clock.held (Some m) last.unsigned.serial)
     c.moment_of.ensures
     ∙ looked_last c.args.reading c.args.waits.now last b looked (sym c.in-Some.ensures.value)
     (c.in_ok-looked.ensures.value honest b s ∙ ap (λ x. looked_at x b) (to_z-of_z reading)) sound)

@@ -16,7 +16,7 @@ loop-index-preserved c =
       many_replies = put.replies ∙ ap (λ n. n + 1) before.many_replies;
       room_for_seals = omega (arith, before.room_for_seals, put.room_for_seals);
       room_for_replies = omega (arith, before.room_for_replies, put.room_for_replies);
-      written = written_next (pending_in (settings_view c.args.batch.settings)) signed_by c.args.batch.waits.now
+      written = written_next (pending_in (settings_view c.args.settings)) signed_by c.args.waits.now
           c.args.answers.now c.loop-index.index c.index-waits-index.result c.index-answers-index.result
           (map seal_view c.loop-index.written.seals.items) (map seal_view c.put.new.written.seals.items)
           (map reply_as c.loop-index.written.replies.items) (map reply_as c.put.new.written.replies.items)

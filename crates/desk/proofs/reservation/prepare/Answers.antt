@@ -1,13 +1,13 @@
-use Rattle.std.proofs.Common.{◌≡◌, ◌+◌, ◌≤◌, refl, sym, ap, ◌∙◌, subst, arith, option_map}
+use Rattle.std.proofs.Common.{◌≡◌, ◌+◌, sym, ap, ◌∙◌, subst, arith, option_map}
 use Rattle.der.specs.DataValueView.{value_view}
 use Rattle.der.specs.Node.{encoding, IsLawful}
 use Rattle.der.specs.ObjectIdentifier.{IsOid}
-use Rattle.gentime.specs.GenTime.{last_moment}
 use Rattle.tsp.specs.Tst.{answer, tst_info}
 use Rattle.tsp.specs.View.{request_view}
 use Rattle.cms.specs.SignedData.{attribute_text}
 use Rattle.desk.specs.Calls.{settings_view, plan_of}
 use Rattle.desk.specs.Texts.{tst_of}
+use Rattle.desk.proofs.BatchJudgement.{next_is}
 use Rattle.desk.proofs.reservation.prepare.Goals as goal
 
 pub write_tst-requires-clause-lawful : goal.write_tst-requires-clause-lawful
@@ -20,10 +20,12 @@ write_tst-requires-clause-lawful c =
     counter.accuracy_us counter.ordering (option_map value_view c.name_in_force.result) oid (omega arith) (omega arith)
     c.micros_of-micros.ensures.within counter.accuracy_some counter.accuracy c.name_in_force.ensures.fitting).1
 
-pub returns-clause-prepared : goal.returns-clause-prepared
-returns-clause-prepared c =
+pub returns-clause-waits : goal.returns-clause-waits
+returns-clause-waits c =
+    let s = settings_view c.args.settings in
     let counter = c.args.settings.policy.now.counter in
     let planned = c.args.planned in
+    let plan = plan_of planned in
     let r = request_view planned.request in
     let serial = planned.last + 1 in
     let made = c.into_tst_info-tst_info.ensures
@@ -31,18 +33,19 @@ returns-clause-prepared c =
     (option_map value_view c.name_in_force.result)) c.of.ensures.same
     ∙ ap (answer r planned.policy.now serial planned.gen_time counter.accuracy_us counter.ordering)
     c.name_in_force.ensures.value) in
-    let tst : c.in-Ok.tst.items ≡ tst_of (settings_view c.args.settings) (plan_of planned) serial =
-    c.in-Ok.ensures.text ∙ ap (λ t. encoding (tst_info t)) made in
+    let tst : c.in-Ok.tst.items ≡ tst_of s plan serial = c.in-Ok.ensures.text ∙ ap (λ t. encoding (tst_info t)) made in
     record {
-      number = refl;
-      moment = c.micros_of-micros.ensures.same;
-      moment_within = subst (λ n. n ≤ last_moment) (sym c.micros_of-micros.ensures.same)
-          c.micros_of-micros.ensures.within;
-      policy_is = refl;
-      algorithm_is = c.algorithm-algorithm.ensures;
-      digest_is = c.hash-digest.ensures;
-      certificate_is = c.cert_req-certificate.ensures;
-      tst_is = tst;
-      text_is = c.in-Ok-attribute_text.ensures.text
-          ∙ ap (attribute_text c.args.settings.identity.now) (c.deref.ensures.value ∙ tst);
+      left = omega (arith, c.if-last-ge-GREATEST_NUMBER.false);
+      reserves = next_is s c.args.account.now plan c.args.query.now serial c.micros_of-micros.result
+          c.algorithm-algorithm.result.now c.hash-digest.result.now c.in-Ok.tst.items c.micros_of-micros.ensures.same
+          c.algorithm-algorithm.ensures c.hash-digest.ensures tst;
+      pending = ap (λ certificate. record {
+        serial = serial;
+        tst = c.in-Ok.tst.items;
+        certificate = certificate;
+        identity = c.args.settings.identity.now;
+        algorithm = c.args.settings.algorithm.now;
+      }) c.cert_req-certificate.ensures;
+      text = c.in-Ok-attribute_text.ensures.text
+          ∙ ap (attribute_text c.args.settings.identity.now) c.deref.ensures.value;
     }

@@ -1,7 +1,7 @@
 use Rattle.std.proofs.Common.{ℕ, List, [], Ok, Err, sym, ◌∙◌, subst}
 use Rattle.desk.specs.Outcome.{all_fine}
 use Rattle.desk.specs.Calls.{outcome_of}
-use Rattle.desk.specs.Effects.{in_seal}
+use Rattle.desk.specs.Kept.{keeping_view}
 use Rattle.desk.proofs.Endings.{unsigned, signer_counted}
 use Rattle.desk.proofs.stamp_end.complete.Goals as goal
 
@@ -26,6 +26,6 @@ returns-in-Err-clause-completes g c =
       record {
         signer = c.in-Err.ensures.counted ∙ signer_counted ⊥ fault (g.X.Signer.fault_count c.args.signer.now);
         moves = signed;
-        ends = unsigned g.B.Standing in_seal c.args.pending fault c.args.store.now;
+        ends = unsigned g.B.Standing (keeping_view c.args.keeping) c.args.pending fault c.args.store.now;
       },
     )

@@ -1,10 +1,11 @@
-use Rattle.std.proofs.Common.{[], Ok, refl}
+use Rattle.std.proofs.Common.{[], Ok, refl, sym, subst}
 use Rattle.desk.specs.Answers.{reply_as, answered}
 use Rattle.desk.specs.Calls.{refused, cause_with, settings_view}
-use Rattle.desk.specs.Command.{Finish, Refused}
-use Rattle.desk.specs.Effects.{fault_of}
+use Rattle.desk.specs.Command.{Answer, Finish, Refused}
+use Rattle.desk.specs.Effects.{fault_of, in_seal}
 use Rattle.desk.specs.Outcome.{all_fine}
 use Rattle.desk.specs.CallContract.{no_signer}
+use Rattle.desk.specs.Wholes.{Ends}
 use Rattle.desk.proofs.Endings.{finishes, finish_refused}
 use Rattle.desk.proofs.Opened.{steps_opened, refused_as}
 use Rattle.desk.proofs.desk.Desk.finish.Goals as goal
@@ -12,17 +13,19 @@ use Rattle.desk.proofs.desk.Desk.finish.Goals as goal
 pub returns-clause-step : goal.returns-clause-step
 returns-clause-step g c =
     let command = Finish c.args.pending c.args.signature.now in
-    let says = reply_as c.in_ok-finish_with.field-0 in
+    let says = reply_as c.reply_with.result in
     steps_opened g.B.Standing c.steps_keep_their_promises.ensures no_signer
     (record { setting = settings_view c.self.inside.settings; store = c.self.inside.store }) c.args.self.now
     command command (all_fine (Ok [])) c.finish_with.new.store says says (λ s a. refl) c.self.view_is refl refl
     (finishes g.B.Standing (settings_view c.self.inside.settings) c.args.pending c.args.signature.now
-    c.self.inside.store c.finish_with.new.store c.in_ok-finish_with.field-0 c.in_ok-finish_with.ensures.ends)
+    c.self.inside.store c.finish_with.new.store c.reply_with.result
+    (subst (λ (a : Answer). Ends g.B.Standing in_seal c.args.pending (Ok c.args.signature.now) (all_fine (Ok []))
+    c.self.inside.store c.finish_with.new.store (Ok a)) (sym c.reply_with.ensures) c.in_ok-kept.ensures.ends))
 
-pub returns-in_err-finish_with-clause-step : goal.returns-in_err-finish_with-clause-step
-returns-in_err-finish_with-clause-step g c =
+pub returns-in_err-kept-clause-step : goal.returns-in_err-kept-clause-step
+returns-in_err-kept-clause-step g c =
     let command = Finish c.args.pending c.args.signature.now in
-    let r = c.in_err-finish_with.field-0.0 in
+    let r = c.in_err-kept.field-0.0 in
     let fault = fault_of (cause_with r) in
     steps_opened g.B.Standing c.steps_keep_their_promises.ensures no_signer
     (record { setting = settings_view c.self.inside.settings; store = c.self.inside.store }) c.args.self.now
@@ -30,5 +33,5 @@ returns-in_err-finish_with-clause-step g c =
     (λ s a. refl) c.self.view_is refl
     (refused_as reply_as c.from_residual.result fault c.from_residual.ensures.1)
     (finish_refused g.B.Standing (settings_view c.self.inside.settings) c.args.pending c.args.signature.now
-    c.self.inside.store c.finish_with.new.store r c.in_err-finish_with.ensures.refusals
-    c.in_err-finish_with.ensures.ends)
+    c.self.inside.store c.finish_with.new.store r c.in_err-kept.ensures.refusals
+    c.in_err-kept.ensures.ends)

@@ -4,7 +4,7 @@ use Rattle.desk.specs.Calls.{settings_view}
 use Rattle.desk.specs.RunContract.{IsRun}
 use Rattle.desk.specs.CallContract.{desk_of}
 use Rattle.desk.proofs.Sound.{TextLaws}
-use Rattle.desk.proofs.RunsOn.{honest_before, steps_run}
+use Rattle.desk.proofs.RunsOn.{honest_before, steps_run, file_stays, proper_still}
 use Rattle.desk.proofs.desk.Desk.run.Goals as goal
 
 pub returns-clause-honest : goal.returns-clause-honest
@@ -32,6 +32,18 @@ returns-clause-run g c =
     (λ d. IsRun g.B.Standing g.G.Signer.signs g.G.Signer.fault_count cs answers d x (desk_of after new) y)
     c.self.view_is (
       steps.0,
-      steps_run g.B.Standing g.G.Signer.signs g.G.Signer.fault_count laws s c.is_proper.ensures cs steps.0 answers
+      steps_run g.B.Standing g.G.Signer.signs g.G.Signer.fault_count laws s c.self.invariant cs steps.0 answers
           c.self.inside.store x after new y steps.1,
     )
+
+pub invariant_of-self-2 : goal.invariant_of-self-2
+invariant_of-self-2 g c =
+    let s = settings_view c.self.inside.settings in
+    let after = settings_view c.in_ok-answers.after in
+    let steps = c.in_ok-answers.ensures.steps in
+    proper_still s after c.self.invariant (file_stays g.B.Standing g.G.Signer.signs g.G.Signer.fault_count s
+    (commands_view c.args.commands.now) steps.0 (answers_view c.in_ok-answers.answers.items) c.self.inside.store
+    c.args.signer.now after c.obey_each.new.store c.obey_each.new.signer steps.1) c.has_subject.ensures
+
+pub returns-clause-proper : goal.returns-clause-proper
+returns-clause-proper g c = invariant_of-self-2 g c

@@ -1,8 +1,8 @@
 use Rattle.std.proofs.Common.{◌≡◌, ◌∙◌, true, false, map, ap}
 use Rattle.desk.specs.Answers.{reply_as}
 use Rattle.desk.proofs.Committed.{told_of}
-use Rattle.desk.proofs.batch.told_by.Goals.{then-is_err, else-is_err}
-use Rattle.desk.proofs.batch.told_by.Goals as goal
+use Rattle.desk.proofs.completion.told_by.Goals.{then-is_err, else-is_err}
+use Rattle.desk.proofs.completion.told_by.Goals as goal
 
 pub returns : goal.returns
 returns c =

@@ -1,0 +1,59 @@
+-- The two halves of stamps that are answered together: up to the one commit of their reservations, and from their
+-- signatures on.
+use Rattle.std.specs.Prelude.{◌≡◌, ℕ, ◌≤◌, List, [], map, length, Option, Result, Vec, vec_capacity}
+use Rattle.tsp.specs.declared.rule.Rule.{Rule}
+use Rattle.cms.specs.declared.signer.SignerFault.{SignerFault}
+use Rattle.book.specs.declared.standing.Standing.{Ghosts}
+use Rattle.book.specs.History.{Reserved}
+use Rattle.desk.specs.Batches.{Question, SealValue, seal_entry}
+use Rattle.desk.specs.Command.{Setting, Answer}
+use Rattle.desk.specs.Commits.{IsCommitted}
+use Rattle.desk.specs.Completions.{AreWritten}
+use Rattle.desk.specs.Outcome.{Call, Fine}
+use Rattle.desk.specs.Verdicts.{JudgesEach, IsToldBy, merged}
+use Rattle.desk.specs.WaitingStamps.{waiting_view, pendings_in}
+use Rattle.desk.specs.declared.pending_batch.PendingBatch.{PendingBatch}
+use Rattle.desk.specs.declared.waiting_stamp.Waiting.{Waiting}
+
+-- Stamps are begun together: a rule for each that is rejected, and what waits of the others. Each is judged by the
+-- history with the reservations of those before it.
+pub data AreBegun {B : Type 0} (g : Ghosts B) (s : Setting) (asked : List Question) (rules : List (Option Rule))
+    (ws : List Waiting) (old new : B) : Type 0 where
+  -- All that waits is reserved, in one commit.
+  reserved : (judged : B) → JudgesEach g s asked rules ws old judged
+      → IsCommitted g (map Reserved (map waiting_view ws)) judged new Fine → AreBegun g s asked rules ws old new
+  -- That commit was refused: each is judged anew, by the history as it stayed, and none waits.
+  unreserved : (first : List (Option Rule)) (tried : List Waiting) (reserving : Call) (judged held : B)
+      → JudgesEach g s asked first tried old judged
+      → IsCommitted g (map Reserved (map waiting_view tried)) judged held reserving → (reserving ≡ Fine → ⊥)
+      → JudgesEach g s asked rules [] held new → ws ≡ [] → AreBegun g s asked rules ws old new
+
+-- They are finished together: the tokens of all that were signed are sealed, in one commit, and each is answered.
+pub record AreFinished {B : Type 0} (g : Ghosts B) (s : Setting) (rules : List (Option Rule)) (ws : List Waiting)
+    (signed : List (Result (List ℕ) SignerFault)) (answers : List Answer) (old new : B) : Type 0 where
+  pub seals : List SealValue
+  pub replies : List Answer
+  pub written : AreWritten (pendings_in s ws) signed seals replies
+  pub sealing : Call
+  pub sealed : IsCommitted g (map seal_entry seals) old new sealing
+  pub told : List Answer
+  pub tells : IsToldBy sealing replies told
+  pub says : answers ≡ merged rules told
+
+-- an empty list with room for so many
+abbrev pub IsRoom : {X A : Type 0} → ℕ → Vec X A → Type 0
+IsRoom count list = (list.items ≡ []) × (count ≤ vec_capacity list)
+
+-- what is written of what waits has room, and so have the replies
+pub record HasRoom (p : PendingBatch) : Type 0 where
+  pub seals : IsRoom (length p.waits.items) p.written.seals
+  pub completed : IsRoom (length p.waits.items) p.written.replies
+  pub replies : IsRoom (length p.verdicts.items) p.replies
+
+-- of no stamp, with room for so many
+pub record IsEmptyBatch (count : ℕ) (p : PendingBatch) : Type 0 where
+  pub verdicts : IsRoom count p.verdicts
+  pub waits : IsRoom count p.waits
+  pub seals : IsRoom count p.written.seals
+  pub completed : IsRoom count p.written.replies
+  pub replies : IsRoom count p.replies
