@@ -1,5 +1,5 @@
 -- An extract, written line after line.
-use Rattle.std.proofs.Common.{◌≡◌, ◌≢◌, ℕ, ◌+◌, ◌<◌, ◌≤◌, ◌^◌, List, [], ◌∷◌, ◌++◌, length, take, Option, Some, Vec}
+use Rattle.std.proofs.Common.{◌≡◌, ◌≢◌, ℕ, ◌+◌, ◌<◌, ◌≤◌, List, [], ◌∷◌, ◌++◌, length, take, Option, None, Some, Vec}
 use Rattle.std.proofs.Common.{Result, Ok, Err}
 use Rattle.std.proofs.Common.{refl, sym, ap, ◌∙◌, subst, inl, inr, arith, append_assoc, append-nil}
 use Rattle.std.proofs.KnownBytes.{Appends-nil, Appends-trans}
@@ -14,7 +14,7 @@ use Rattle.book.specs.Rows.{StampRow}
 use Rattle.book.specs.History.{History, stamps_between}
 use Rattle.book.specs.Stands.{Stands, OnlyLooks}
 use Rattle.audit.specs.Extract.{columns, extract_text, fields, header_text, lines_text, stamp_text, stamps_text}
-use Rattle.audit.specs.Failures.{HasFailed, StopsFor}
+use Rattle.audit.specs.Failures.{HasFailed, IsAsked, StopsFor}
 use Rattle.audit.specs.Steps.{IsNextLine}
 use Rattle.audit.specs.Writes.{Writes, WritesLine}
 use Rattle.audit.specs.declared.fault.ExtractFault.{ExtractFault}
@@ -81,7 +81,12 @@ pub next_left : (before after : List StampRow) (found : Option (Vec ℕ Global))
     → found ≡ Some line → octets ≡ line.items → IsNextLine before after found
     → stamps_text before ≡ octets ++ stamps_text after
 next_left before after found line octets is same next =
-    subst (IsNextLine before after) is next ∙ ap (λ l. l ++ stamps_text after) (sym same)
+    (subst (IsNextLine before after) is next).0 ∙ ap (λ l. l ++ stamps_text after) (sym same)
+
+-- and that is one of those that were left
+pub one_left : (before after : List StampRow) (found : Option (Vec ℕ Global)) (line : Vec ℕ Global) → found ≡ Some line
+    → IsNextLine before after found → length before ≡ length after + 1
+one_left before after found line is next = (subst (IsNextLine before after) is next).1
 
 -- the header is written
 pub begun : {B : Type 0} (g : Ghosts B) (store : B) (out out' : Option (List ℕ)) (from to octets octets' : ℕ)
@@ -344,3 +349,46 @@ counted_more g old now next from to octets left last left' last' line before loo
     length-append line (stamps_text (stamps_between left' last' b)),
   );
 }
+
+-- it was asked so often as there were stamps before those that are left
+pub record IsAskedOf {B : Type 0} (g : Ghosts B) (old now : B) (from to left last : ℕ) (asked asked' : Option ℕ) : Type 0
+  where
+    pub told : ℕ
+    pub times : IsAsked told asked asked'
+    pub splits : g.honest now → (b : History) → Stands g b old
+        → length (stamps_between from to b) ≡ told + length (stamps_between left last b)
+
+asked_none : (asked : Option ℕ) → IsAsked 0 asked asked
+asked_none None = tt
+asked_none (Some n) = omega arith
+
+asked_then : (told : ℕ) (a b c : Option ℕ) → IsAsked told a b → IsAsked 1 b c → IsAsked (told + 1) a c
+asked_then told None b c first second = tt
+asked_then told (Some a) None c first second = absurd first
+asked_then told (Some a) (Some b) None first second = absurd second
+asked_then told (Some a) (Some b) (Some c) first second = omega (arith, first, second)
+
+pub asked_first : {B : Type 0} (g : Ghosts B) (store : B) (from to : ℕ) (asked : Option ℕ)
+    → IsAskedOf g store store from to from to asked asked
+asked_first g store from to asked = record { told = 0; times = asked_none asked; splits = λ h b s. omega arith }
+
+pub asked_more : {B : Type 0} (g : Ghosts B) (old now next : B) (from to left last left' last' : ℕ)
+    (asked asked' asked'' : Option ℕ) → IsAskedOf g old now from to left last asked asked' → OnlyLooks g old now
+    → OnlyLooks g now next
+    → (g.honest next → (b : History) → Stands g b now
+    → length (stamps_between left last b) ≡ length (stamps_between left' last' b) + 1)
+    → IsAsked 1 asked' asked'' → IsAskedOf g old next from to left' last' asked asked''
+asked_more g old now next from to left last left' last' asked asked' asked'' before looked looks one times = record {
+  told = before.told + 1;
+  times = asked_then before.told asked asked' asked'' before.times times;
+  splits = λ h b s. omega (arith, before.splits (looks.honest h) b s, one h b (looked.stands b s));
+}
+
+pub asked_all : {B : Type 0} (g : Ghosts B) (old now next : B) (from to left last : ℕ) (asked asked' : Option ℕ)
+    → IsAskedOf g old now from to left last asked asked' → OnlyLooks g old now → OnlyLooks g now next
+    → (g.honest next → (b : History) → Stands g b now → stamps_between left last b ≡ [])
+    → g.honest next → (b : History) → Stands g b old → IsAsked (length (stamps_between from to b)) asked asked'
+asked_all g old now next from to left last asked asked' before looked looks none h b s =
+    let all : length (stamps_between from to b) ≡ before.told =
+    omega (arith, before.splits (looks.honest h) b s, ap length (none h b (looked.stands b s))) in
+    subst (λ n. IsAsked n asked asked') (sym all) before.times

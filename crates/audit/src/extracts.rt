@@ -1,13 +1,13 @@
 //! The stamps of a range of serial numbers, for an auditor.
 ghost use Rattle.std.specs.Io.KnownBytes.{Keeps};
-ghost use Rattle.std.specs.Prelude.{◌≡◌, ◌≢◌, ◌<◌, ◌≤◌, ◌^◌, ◌-◌, ℕ, length, Err, IfOk, IfErr, IfSome, MatchResult};
+ghost use Rattle.std.specs.Prelude.{◌≡◌, ◌≢◌, ◌<◌, ◌≤◌, ◌^◌, ◌-◌, ℕ, length, Err, IfOk, IfErr, IfSome, MatchResult, OnOk};
 ghost use Rattle.policy.specs.View.{account_view, policy_view};
 ghost use Rattle.book.specs.History.{History, stamps_between};
 ghost use Rattle.book.specs.Stands.{Stands, OnlyLooks};
 ghost use Rattle.audit.specs.Auditor.{IsAllowed, ComesWhere, IfUnasked, IsMet};
 ghost use Rattle.audit.specs.Inquiries.{Allows, ComesFor};
 ghost use Rattle.audit.specs.Extract.{extract_text};
-ghost use Rattle.audit.specs.Failures.{StopsFor};
+ghost use Rattle.audit.specs.Failures.{IsAsked, StopsFor};
 ghost use Rattle.audit.specs.Fault.{count_after};
 ghost use Rattle.audit.specs.Steps.{IsLine, IsNextLine};
 ghost use Rattle.audit.specs.Writes.{Writes};
@@ -150,6 +150,11 @@ pub fn extract_length<B: Book + Drop, W: Output>(
         (length (extract_text inquiry.now.from inquiry.now.to b)) (W.failures out.old) (W.failures out.new)) }
     ensures kept { MatchResult result (λ _. W.failures out.new ≡ W.failures out.old)
         (λ e. e ≢ ExtractFault.Write → W.failures out.new ≡ W.failures out.old) }
+
+    // Behind each stamp it is asked.
+    ensures asked { B.honest store.new → (b : History) → Stands B.Standing b store.old
+        → OnOk result (IsAsked (length (stamps_between inquiry.now.from inquiry.now.to b)) (W.asked out.old)
+        (W.asked out.new)) }
 {
     allow(inquiry)?;
     count_octets(alloc, store, inquiry.from, inquiry.to, out)
@@ -206,6 +211,8 @@ fn count_octets<B: Book + Drop, W: Output>(
         (W.failures out.old) (W.failures out.new)) }
     ensures kept { MatchResult result (λ _. W.failures out.new ≡ W.failures out.old)
         (λ e. e ≢ ExtractFault.Write → W.failures out.new ≡ W.failures out.old) }
+    ensures asked { B.honest store.new → (b : History) → Stands B.Standing b store.old
+        → OnOk result (IsAsked (length (stamps_between from to b)) (W.asked out.old) (W.asked out.new)) }
 {
     let mut octets = header().len() as u64;
     let mut walk = StampsBetween::of(store, from, to);

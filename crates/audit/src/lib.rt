@@ -12,5 +12,6 @@ mod writes;
 pub use check::{check_deposit, check_row, identity_at};
 pub use extracts::{Extracted, Inquiry, extract, extract_length, write_extract};
 pub use fault::ExtractFault;
+pub use line::{identifier_text, moment_text, state_text};
 pub use output::Output;
 pub use writes::write_octets;

@@ -101,8 +101,9 @@ fn record_text(alloc: Global, fields: &[&[u8]]) -> Result<Vec<u8>, ExtractFault>
     }
 }
 
-/// A moment as a genTime, and one after 9999 in microseconds.
-fn moment_text(alloc: Global, moment: u64) -> Result<Vec<u8>, ExtractFault>
+/// A moment as a genTime, with its fraction digits (RFC 3161 2.4.2), and one after 9999 in microseconds. Refused with
+/// `Memory` alone.
+pub fn moment_text(alloc: Global, moment: u64) -> Result<Vec<u8>, ExtractFault>
     ensures text { IfOk result (λ text. text.items ≡ moment_text moment) }
     ensures memory { IfErr result (λ e. e ≡ ExtractFault.Memory) }
 {
@@ -126,8 +127,9 @@ fn gen_time_of(moment: u64) -> Option<GenTime>
     GenTime::from_micros(micros).ok()
 }
 
-/// The text of the object identifier that has these contents octets, and of other octets their hexadecimal digits.
-fn identifier_text(alloc: Global, octets: &[u8]) -> Result<String, ExtractFault>
+/// The text of the object identifier that has these contents octets (X.690 8.19), and of other octets their hexadecimal
+/// digits. Refused with `Memory` alone.
+pub fn identifier_text(alloc: Global, octets: &[u8]) -> Result<String, ExtractFault>
     ensures text { IfOk result (λ text. string_bytes text ≡ identifier_text octets.now) }
     ensures memory { IfErr result (λ e. e ≡ ExtractFault.Memory) }
 {
@@ -142,8 +144,8 @@ fn identifier_text(alloc: Global, octets: &[u8]) -> Result<String, ExtractFault>
     }
 }
 
-/// Whether a stamp has its token.
-fn state_text(token: &Option<Vec<u8>>) -> &str
+/// Whether a stamp has its token: `sealed`, or `void`.
+pub fn state_text(token: &Option<Vec<u8>>) -> &str
     ensures { result.now ≡ state_text (option_map (λ t. t.items) token.now) }
 {
     match token {

@@ -33,8 +33,17 @@ fn elapsed_since(reading: i64, calibration: &Calibration) -> Option<u64>
     u64::try_from(i128::from(reading) - i128::from(calibration.reading)).ok()
 }
 
-/// How far the true moment may be away from now.
-fn deviation_of(uncertainty: u64, elapsed: u64, drift_ppb: u32) -> u128
+/// How far the true moment may be away from that which a reading stands for, in microseconds: the calibration's
+/// uncertainty, and what the clock may have drifted since. Before the calibration it has drifted nothing.
+pub fn deviation_of(counter: &Counter, reading: i64, calibration: &Calibration) -> u128
+    ensures value { result ≡ deviation (counter_view counter.now) reading calibration.now }
+    ensures bound { result < 2 ^ 100 }
+{
+    let elapsed = elapsed_since(reading, calibration).unwrap_or(0);
+    deviation_after(calibration.uncertainty, elapsed, counter.drift_ppb)
+}
+
+fn deviation_after(uncertainty: u64, elapsed: u64, drift_ppb: u32) -> u128
     ensures value { result ≡ uncertainty + divided_up (elapsed * drift_ppb) 1_000_000_000 }
     ensures bound { result < 2 ^ 100 }
 {
@@ -47,7 +56,7 @@ fn is_accurate(counter: &Counter, calibration: &Calibration, elapsed: u64) -> bo
     ensures { IsTrue result ↔ (calibration.now.uncertainty + divided_up (elapsed * counter.now.drift_ppb) 1_000_000_000
         + (step (counter_view counter.now) - 1) ≤ counter.now.accuracy_us) }
 {
-    let deviation = deviation_of(calibration.uncertainty, elapsed, counter.drift_ppb);
+    let deviation = deviation_after(calibration.uncertainty, elapsed, counter.drift_ppb);
     let rounding = GenTime::step(counter.fraction_digits) - 1;
     deviation + u128::from(rounding) <= u128::from(counter.accuracy_us)
 }

@@ -10,7 +10,7 @@ mod laws;
 mod rules;
 mod verdict;
 
-pub use clock::{ClockState, clock_state, now_of};
+pub use clock::{ClockState, clock_state, deviation_of, now_of};
 pub use facts::{Calibration, ClockFacts, Facts, Hold};
 pub use judge::{decide, judge_request};
 pub use laws::{

@@ -1,8 +1,13 @@
 -- The definitions, computed on rows: a clock that was calibrated at its 1.2th second, and again at its 1.9th.
-use Rattle.std.proofs.Common.{◌≡◌, pos, [], ◌∷◌, Some, None, true, false, refl, arith}
+use Rattle.std.proofs.Common.{◌≡◌, ℕ, pos, List, [], ◌∷◌, drop, codes, Some, None, true, false, refl, arith}
 use Rattle.std.proofs.lemmas.Int.{ints}
-use Rattle.policy.specs.Record.{CounterValue}
-use Rattle.book.specs.History.{CalibrationValue}
+use Rattle.policy.specs.Record.{CounterValue, PolicyValue}
+use Rattle.book.specs.History.{CalibrationValue, Calibrated, History, Reserved, ReservationValue, Sealed}
+use Rattle.book.specs.History.{stamps_between}
+use Rattle.book.specs.Rows.{StampRow}
+use Rattle.judgement.specs.Journeys.{row_in, rows_before}
+use Rattle.judgement.specs.Readings.{evidence_in}
+use Rattle.judgement.specs.Past.{before_of}
 use Rattle.judgement.specs.Readings.{IsReadUnder, is_held_by}
 
 abbrev counter : CounterValue
@@ -46,3 +51,48 @@ held_at_first = refl
 
 free_at_last : is_held_by (record { from = pos 1_000_000; to = pos 1_300_000 } ∷ []) (pos 1_300_000) ≡ false
 free_at_last = refl
+
+-- ---- the rows before a stamp
+
+abbrev reserved : ℕ → List ℕ → ℕ → ReservationValue
+reserved serial account gen_time = record {
+  serial = serial;
+  account = account;
+  gen_time = gen_time;
+  policy = [];
+  algorithm = [];
+  digest = [];
+  request = [];
+  tst = [];
+}
+
+-- two accounts on the first day, and one of them again on the second
+abbrev history : History
+history =
+    Reserved (reserved 4 (codes "a") 86_400_000_000) ∷ Sealed 3 [] ∷ Reserved (reserved 3 (codes "a") 86_399_000_000)
+    ∷ Calibrated second ∷ Reserved (reserved 2 (codes "b") 2_000_000) ∷ Reserved (reserved 1 (codes "a") 1_000_000)
+    ∷ Calibrated first ∷ []
+
+abbrev row : ReservationValue → StampRow
+row r = row_in history r
+
+-- the table has them by number, each behind those before it
+rows_are : stamps_between 1 4 history ≡ rows_before history history
+rows_are = refl
+
+before_third : rows_before history (drop 3 history)
+    ≡ row (reserved 1 (codes "a") 1_000_000) ∷ row (reserved 2 (codes "b") 2_000_000) ∷ []
+before_third = refl
+
+-- the third has one of its account on its day before it, and the fourth none on the second day
+third : before_of (rows_before history (drop 3 history)) (row (reserved 3 (codes "a") 86_399_000_000))
+    ≡ record { last_gen_time = Some 2_000_000; count = 1 }
+third = refl
+
+fourth : before_of (rows_before history (drop 1 history)) (row (reserved 4 (codes "a") 86_400_000_000))
+    ≡ record { last_gen_time = Some 86_399_000_000; count = 0 }
+fourth = refl
+
+-- the calibrations come in the order in which they were added
+calibrations_are : (file : PolicyValue) → (evidence_in file history).calibrations ≡ first ∷ second ∷ []
+calibrations_are file = refl

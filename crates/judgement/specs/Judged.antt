@@ -1,5 +1,6 @@
 -- How a stamp that isn't given by the rules is told.
-use Rattle.std.specs.Prelude.{◌<◌, ◌≤◌, length}
+use Rattle.std.specs.Prelude.{◌≡◌, ◌<◌, ◌≤◌, ◌==◌, ◌&&◌, Bool, true, false, not, List, Option, Some, None, is_some}
+use Rattle.std.specs.Prelude.{length}
 use Rattle.book.specs.Rows.{StampRow}
 use Rattle.tsp.specs.Rejection.{number_of}
 use Rattle.tsp.specs.Request.{RequestValue, Spells}
@@ -9,6 +10,7 @@ use Rattle.decide.specs.Rules.{Holds}
 use Rattle.decide.specs.Verdict.{PlanValue, IsVerdict, Allowed}
 use Rattle.decide.specs.declared.facts.Facts.{Facts}
 use Rattle.judgement.specs.Given.{IsGivenByRules, account_of}
+use Rattle.judgement.specs.Past.{before_of, last_gen_time}
 use Rattle.judgement.specs.Readings.{EvidenceValue, IsPossible, unheld}
 use Rattle.judgement.specs.declared.evidence.Before.{Before}
 use Rattle.judgement.specs.declared.judgement.Judgement.{Judgement}
@@ -44,3 +46,14 @@ IsJudgedAs e before stamp MayHaveBeenHeld =
     (¬ IsGivenByRules e before stamp) × IsGivenByRules (unheld e) before stamp
 IsJudgedAs e before stamp (Fails rule) = FailsFurthest (unheld e) before stamp rule
 IsJudgedAs e before stamp Differs = IsAnotherRow (unheld e) before stamp
+
+-- A first row whose serial number isn't 1 was carried on from another database, and is taken as it stands: that one's
+-- rows judge it.
+abbrev pub is_carried_on : List StampRow → StampRow → Bool
+is_carried_on before stamp = not (is_some (last_gen_time before)) && not (stamp.serial == 1)
+
+-- how a stamp is judged behind the rows before it, but for one that was carried on
+abbrev pub IsJudgedBehind : EvidenceValue → List StampRow → StampRow → Option Judgement → Type 0
+IsJudgedBehind e before stamp None = is_carried_on before stamp ≡ true
+IsJudgedBehind e before stamp (Some judgement) =
+    (is_carried_on before stamp ≡ false) × IsJudgedAs e (before_of before stamp) stamp judgement

@@ -1,5 +1,9 @@
+pub mod Explanation
 pub mod Given
+pub mod Journeys
 pub mod Judged
+pub mod Past
 pub mod Readings
 pub mod Search
+pub mod Texts
 pub mod View

@@ -1,13 +1,14 @@
 -- Which readings the clock may have had when a stamp was reserved, by what the tables keep: the calibrations, in the
 -- order in which they were added, and the stamp's genTime.
 use Rattle.std.specs.Prelude.{◌≡◌, ◌⊎◌, ◌&&◌, ℕ, ℤ, pos, ◌≤ℤ◌, int_le, int_lt, Bool, false, List, [], ◌∷◌}
-use Rattle.std.specs.Prelude.{Option, Some, None, IfSome}
+use Rattle.std.specs.Prelude.{Option, Some, None, IfSome, reverse}
 use Rattle.std.specs.List.{list_any}
 use Rattle.policy.specs.Record.{CounterValue, PolicyValue}
-use Rattle.book.specs.History.{CalibrationValue, HoldValue, first_of}
+use Rattle.book.specs.History.{CalibrationValue, History, HoldValue, calibrations, first_of, holds}
+use Rattle.book.specs.Identities.{identities}
 use Rattle.book.specs.Rows.{InstalledRow}
 use Rattle.book.specs.Sound.{greatest_number}
-use Rattle.decide.specs.Clock.{now_at, gen_time}
+use Rattle.decide.specs.Clock.{IsGood, now_at, gen_time}
 use Rattle.decide.specs.declared.facts.Calibration.{Calibration}
 use Rattle.decide.specs.declared.facts.ClockFacts.{ClockFacts}
 use Rattle.decide.specs.declared.facts.Facts.{Facts}
@@ -19,6 +20,15 @@ pub record EvidenceValue : Type 0 where
   pub calibrations : List CalibrationValue
   pub holds : List HoldValue
   pub identities : List InstalledRow
+
+-- what a history keeps of them, with the record of a policy file
+abbrev pub evidence_in : PolicyValue → History → EvidenceValue
+evidence_in file b = record {
+  file = file;
+  calibrations = reverse (calibrations b);
+  holds = reverse (holds b);
+  identities = identities b;
+}
 
 -- the same, if nothing had ever been held
 abbrev pub unheld : EvidenceValue → EvidenceValue
@@ -74,3 +84,9 @@ IsCalibratedClock e last stated clock = IsOfSome (IsClockUnder e last stated clo
 pub record IsPossible (e : EvidenceValue) (before : Before) (stated : ℕ) (facts : Facts) : Type 0 where
   pub clock : IsCalibratedClock e before.last_gen_time stated facts.clock ⊎ (facts.clock ≡ uncalibrated)
   pub count : facts.count ≡ before.count
+
+-- facts that may have been found, by which the clock is good if it is by any of these
+pub record ComesFurthest (e : EvidenceValue) (before : Before) (stated : ℕ) (facts : Facts) : Type 0 where
+  pub possible : IsPossible e before stated facts
+  pub furthest : (others : Facts) → IsPossible e before stated others → IsGood e.file.counter others.clock
+      → IsGood e.file.counter facts.clock

@@ -10,10 +10,8 @@ use Rattle.book.specs.Rows.{StampRow}
 use Rattle.decide.specs.Clock.{now_at, IsGood}
 use Rattle.decide.specs.Verdict.{PlanValue}
 use Rattle.decide.specs.declared.facts.ClockFacts.{ClockFacts}
-use Rattle.decide.specs.declared.facts.Facts.{Facts}
-use Rattle.judgement.specs.Readings.{EvidenceValue, IsReadUnder, IsOfSome, IsClockUnder, IsPossible, calibration_of}
+use Rattle.judgement.specs.Readings.{EvidenceValue, IsReadUnder, IsOfSome, IsClockUnder, calibration_of}
 use Rattle.judgement.specs.Readings.{is_held_by}
-use Rattle.judgement.specs.declared.evidence.Before.{Before}
 
 -- ---- readings
 
@@ -60,12 +58,6 @@ abbrev pub IsGoodClock : EvidenceValue → Option ℕ → ℕ → List Calibrati
 IsGoodClock e last stated calibrations None =
     (clock : ClockFacts) → IsOfSome (IsGoodUnder e last stated clock) calibrations → ⊥
 IsGoodClock e last stated calibrations (Some clock) = IsOfSome (IsGoodUnder e last stated clock) calibrations
-
--- facts that may have been found, by which the clock is good if it is by any of these
-pub record ComesFurthest (e : EvidenceValue) (before : Before) (stated : ℕ) (facts : Facts) : Type 0 where
-  pub possible : IsPossible e before stated facts
-  pub furthest : (others : Facts) → IsPossible e before stated others → IsGood e.file.counter others.clock
-      → IsGood e.file.counter facts.clock
 
 -- ---- what of a row a plan makes, besides what is compared of each row
 

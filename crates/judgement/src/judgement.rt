@@ -1,3 +1,7 @@
+ghost use Rattle.std.specs.Prelude.{Some};
+ghost use Rattle.judgement.specs.Texts.{judgement_text};
+
+use std::fmt;
 use tsp::Rule;
 
 /// What is found of a stamp.
@@ -12,4 +16,20 @@ pub enum Judgement {
     Fails(Rule),
     /// It isn't: no rule fails, but its row, or the TSTInfo in it, isn't that of the stamp which the rules allow.
     Differs,
+}
+
+impl fmt::Display for Judgement {
+    ghost output = { λ judgement. Some (judgement_text judgement) };
+
+    fn fmt<W: fmt::Write>(&self, f: &mut fmt::Formatter<W>) -> fmt::Result {
+        match self {
+            Judgement::Given => write!(f, "given"),
+            Judgement::MayHaveBeenHeld => write!(f, "may have been held"),
+            Judgement::Fails(rule) => {
+                let number = rule.number();
+                write!(f, "isn't given by these rules: rule {number}")
+            }
+            Judgement::Differs => write!(f, "isn't given by these rules: text"),
+        }
+    }
 }

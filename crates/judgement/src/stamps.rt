@@ -1,5 +1,5 @@
 //! What is found of a stamp.
-ghost use Rattle.std.specs.Prelude.{◌≡◌, ◌↔◌, ◌≤◌, length};
+ghost use Rattle.std.specs.Prelude.{◌≡◌, ◌↔◌, ◌≤◌, List, length};
 ghost use Rattle.policy.specs.View.{policy_view};
 ghost use Rattle.tsp.specs.Request.{Spells};
 ghost use Rattle.tsp.specs.View.{request_view};
@@ -9,14 +9,15 @@ ghost use Rattle.decide.specs.Verdict.{IsVerdict, Allowed};
 ghost use Rattle.decide.specs.View.{plan_view};
 ghost use Rattle.decide.specs.declared.facts.Facts.{Facts};
 ghost use Rattle.judgement.specs.Given.{IsGivenByRules, account_of};
-ghost use Rattle.judgement.specs.Judged.{IsJudgedAs};
-ghost use Rattle.judgement.specs.Readings.{EvidenceValue, IsPossible, unheld};
-ghost use Rattle.judgement.specs.Search.{ComesFurthest};
+ghost use Rattle.judgement.specs.Judged.{IsJudgedAs, IsJudgedBehind};
+ghost use Rattle.judgement.specs.Past.{IsPast};
+ghost use Rattle.judgement.specs.Readings.{ComesFurthest, EvidenceValue, IsPossible, unheld};
 ghost use Rattle.judgement.specs.View.{evidence_view};
 ghost use Rattle.judgement.specs.declared.judgement.Judgement.{Judgement};
 
 use crate::evidence::{Before, Evidence};
 use crate::judgement::Judgement;
+use crate::past::Past;
 use crate::readings::good_clock;
 use crate::row::is_stamp_by;
 use book::Stamp;
@@ -50,7 +51,7 @@ fn unheld<'a>(evidence: &Evidence<'a>) -> Evidence<'a>
 }
 
 /// The facts by which the rules come furthest, if nothing had ever been held.
-fn furthest(evidence: &Evidence<'_>, before: &Before, gen_time: u64) -> Facts
+pub(crate) fn furthest(evidence: &Evidence<'_>, before: &Before, gen_time: u64) -> Facts
     ensures { ComesFurthest (unheld (evidence_view evidence.now)) before.now gen_time result }
 {
     match good_clock(&unheld(evidence), before, gen_time) {
@@ -68,6 +69,19 @@ fn furthest(evidence: &Evidence<'_>, before: &Before, gen_time: u64) -> Facts
             count: before.count,
         },
     }
+}
+
+/// What is found of a stamp behind the rows before it. Nothing is of a first row whose serial number isn't 1, which was
+/// carried on from another database.
+pub fn judge_behind(evidence: &Evidence<'_>, past: &Past, stamp: &Stamp) -> Option<Judgement>
+    ensures { (before : List StampRow) → IsPast before past.now
+        → IsJudgedBehind (evidence_view evidence.now) before (stamp_view stamp.now) result }
+{
+    let before = past.before(stamp);
+    if before.last_gen_time.is_none() && stamp.serial != 1 {
+        return None;
+    }
+    Some(judge(evidence, &before, stamp))
 }
 
 /// What is found of a stamp that the rules allow, if nothing was held.
