@@ -16,8 +16,10 @@ use Rattle.desk.specs.declared.clock_facts.Looked.{Looked}
 use Rattle.desk.proofs.Judgement.{count_same}
 use Rattle.desk.proofs.SameEffect.{facts_same}
 use Rattle.service.specs.Accounts.{IsUsedAt, account_text}
-use Rattle.service.specs.Answers.{AnswerValue, success}
-use Rattle.service.specs.Reports.{ReportsText, IsAccountText, tells_text}
+use Rattle.service.specs.Answers.{success}
+use Rattle.service.specs.Handlers.{AnswersReport}
+use Rattle.service.specs.Reports.{IsBodyOf, Seen, tells}
+use Rattle.service.specs.Requests.{OfAccount}
 use Rattle.service.specs.Served.{Sends}
 use Rattle.service.specs.declared.answer.Media.TheVariants as media
 use Rattle.service.specs.declared.served.Served.{Served}
@@ -58,18 +60,18 @@ module _ (counter file_counter : CounterValue) (looked : Looked) (asked reading 
       subst (λ x. IsGood file_counter x → ⊥) same_clock (subst (λ x. IsGood x looked.clock → ⊥) of bad)
 
 -- what is told of an account is what the policy file and the store say of it
-pub account_told : {B W : Type 0} (g : Ghosts B) (contents : W → Option (List ℕ)) (reading asked : ℤ) (w w' : W)
+pub account_told : {B W : Type 0} (g : Ghosts B) (contents : W → Option (List ℕ)) (seen : Seen) (asked : ℤ) (w w' : W)
     (old new : DeskValue B) (file : PolicyValue) (account : AccountValue) (used : Option ℕ) (body : List ℕ)
-    (outcome : Served) → asked ≡ reading → file ≡ old.setting.file
+    (outcome : Served) → asked ≡ seen.reading → file ≡ old.setting.file
     → (g.honest new.store → (b : History) → Stands g b old.store
     → IsUsedAt old.setting.file.counter (clock_of asked b) account.name b used)
     → body ≡ account_text file account used
-    → Sends contents reading w w' (success 200 media.Text body) outcome
-    → (a : AnswerValue) × ReportsText (IsAccountText g old new account reading) a
-    × Sends contents reading w w' a outcome
-account_told g contents reading asked w w' old new file account used body outcome at of is text sent = (
+    → Sends contents seen.reading w w' (success 200 media.Text body) outcome
+    → AnswersReport g contents seen w w' old new (OfAccount account) outcome
+unfolding IsBodyOf
+account_told g contents seen asked w w' old new file account used body outcome at of is text sent = (
   success 200 media.Text body,
-  tells_text body (record {
+  tells body (record {
     used = used;
     is = λ honest b stands.
         subst (λ r. IsUsedAt old.setting.file.counter (clock_of r b) account.name b used) at (is honest b stands);

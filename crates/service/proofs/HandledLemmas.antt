@@ -1,100 +1,77 @@
 -- What handlers do, out of what their checks, the desk's calls and the answers that are written say.
-use Rattle.std.proofs.Common.{◌≡◌, ℕ, ℤ, Bool, true, false, List, [], ◌++◌, Option, Result, Ok, Err, inl, inr, refl, subst}
+use Rattle.std.proofs.Common.{◌≡◌, ℕ, ℤ, Bool, true, false, List, [], ◌++◌, Option, Result, Ok, Err, ap, refl, subst}
+use Rattle.std.proofs.Common.{Vec}
+use Rattle.std.specs.declared.alloc.Global.{Global}
 use Rattle.std.specs.Fmt.{decimal}
 use Rattle.book.specs.declared.standing.Standing.{Ghosts}
 use Rattle.book.specs.Rights.{ListedValue}
 use Rattle.book.specs.Stands.{OnlyLooks}
 use Rattle.cms.specs.declared.signer.SignerFault.{SignerFault}
 use Rattle.desk.specs.Answers.{answered, reply_as}
-use Rattle.desk.specs.Command.{Command, Answer, Stamp, Deposit, ListAll, Kept, Listed}
-use Rattle.desk.specs.Shown.{done_as}
+use Rattle.desk.specs.Command.{Command, Answer, Stamp, ListAll, Kept, Listed}
+use Rattle.desk.specs.Shown.{deposited_as, done_as, shown_as}
 use Rattle.desk.specs.CallContract.{DeskValue}
 use Rattle.desk.specs.declared.fault.Fault.{Fault}
+use Rattle.desk.specs.declared.reply.Deposited.{Deposited}
 use Rattle.desk.specs.declared.reply.Reply.{Reply}
 use Rattle.desk.specs.declared.reply.Reply.TheVariants as reply
 use Rattle.policy.specs.Record.{AccountValue}
-use Rattle.service.specs.Answers.{AnswerValue, line_feed, refusal_answer, success}
-use Rattle.service.specs.Checks.{◌>>=◌}
+use Rattle.service.specs.Answers.{AnswerValue, line_feed, media_shown, refusal_answer, success, unavailable}
 use Rattle.service.specs.ExtractAnswers.{ServesExtract}
-use Rattle.service.specs.Handlers.{Handles, RequestValue}
-use Rattle.service.specs.Reports.{tells_text, wants_text}
-use Rattle.service.specs.Requests.{Asked, Report, Step, Look, Extract, Status, IsRequest, asked_by}
-use Rattle.service.specs.Served.{Reports, Sends, Steps, Tells, plainly, unavailable, wants_list}
-use Rattle.service.specs.StateAnswers.{ServesStatus}
-use Rattle.service.specs.Views.{done_answer, stamp_answer, status_kept}
+use Rattle.service.specs.Handlers.{AnswersReport, Handles}
+use Rattle.service.specs.Requests.{Asked, Report, Step, Look, Extract}
+use Rattle.service.specs.Served.{Sends, Steps, Tells, plainly, wants_list}
+use Rattle.service.specs.Views.{done_answer, kept_answer, shown_answer, stamp_answer, status_kept}
+use Rattle.service.specs.declared.answer.Media.{Media}
 use Rattle.service.specs.declared.answer.Media.TheVariants as media
 use Rattle.service.specs.declared.refusal.Refusal.{Refusal}
-use Rattle.service.specs.declared.routes.Action.{Action}
 use Rattle.service.specs.declared.served.Served.{Served}
 use Rattle.service.proofs.ServingLemmas.{turn, sends, refusing, why_told, answering_auditor, reporting}
 
 module _ {W B X : Type 0} (g : Ghosts B) (signs : X → List ℕ → Result (List ℕ) SignerFault → X → Type 0) (count : X → ℕ)
-    (contents : W → Option (List ℕ)) (r : RequestValue) (action : Action) (w w' : W) (d d' : DeskValue B) (x x' : X)
-    (outcome : Served) where
-  -- by the file's checks, this is asked for
-  abbrev pub Asks : Result Asked Refusal → Type 0
-  Asks asked = asked_by d.setting.file r.reading r.head r.body action ≡ asked
+    (contents : W → Option (List ℕ)) (reading : ℤ) (w w' : W) (d d' : DeskValue B) (x x' : X) (outcome : Served) where
+  abbrev Handled : Result Asked Refusal → Type 0
+  Handled asked = Handles g signs count contents reading asked w w' d d' x x' outcome
 
-  abbrev Handled : Type 0
-  Handled = Handles g signs count contents r action w w' d d' x x' outcome
+  -- what is asked for is what the checks say
+  pub handled : (asked found : Result Asked Refusal) → found ≡ asked → Handled found → Handled asked
+  handled asked found is = subst (λ a. Handled a) is
 
-  pub refused : (f : Refusal) → Asks (Err f) → d' ≡ d → x' ≡ x → Sends contents r.reading w w' (refusal_answer f) outcome
-      → Handled
-  refused f asks desk signer sent = λ before after request.
-      let P : Result Asked Refusal → Type 0 = λ asked. IsRequest d.setting.file r.reading before after asked in
-      refusing g signs count contents r.reading (turn before after w w' d d' x x') f outcome (subst P asks request)
+  pub refused : (f : Refusal) → d' ≡ d → x' ≡ x → Sends contents reading w w' (refusal_answer f) outcome
+      → Handled (Err f)
+  refused f desk signer sent = λ before after request.
+      refusing g signs count contents reading (turn before after w w' d d' x x') f outcome request
       (record { desk = desk; signer = signer }) sent
 
-  pub told : (c : Command) (reply : Answer) (a : AnswerValue) → Asks (Ok (Step c))
-      → Steps g signs count d d' x x' c reply → Tells g signs count d d' c reply a → Sends contents r.reading w w' a outcome
-      → Handled
-  told c reply a asks steps tells sent = λ before after request.
-      let P : Result Asked Refusal → Type 0 = λ asked. IsRequest d.setting.file r.reading before after asked in
+  pub told : (c : Command) (reply : Answer) (a : AnswerValue) → Steps g signs count d d' x x' c reply
+      → Tells g signs count d d' c reply a → Sends contents reading w w' a outcome → Handled (Ok (Step c))
+  told c reply a steps tells sent = λ before after request.
       let t = turn before after w w' d d' x x' in
-      sends g signs count contents r.reading t a outcome
-      (why_told g signs count contents r.reading t c (subst P asks request) reply steps a tells) sent
+      sends g signs count contents reading t a outcome
+      (why_told g signs count contents reading t c request reply steps a tells) sent
 
   pub list_wanted : (account : AccountValue) (rows : List ListedValue) → (rows ≡ [] → ⊥)
-      → Asks (Ok (Step (ListAll account))) → Steps g signs count d d' x x' (ListAll account) (Listed rows)
-      → Sends contents r.reading w w' unavailable outcome → Handled
-  list_wanted account rows some asks steps sent = λ before after request.
-      let P : Result Asked Refusal → Type 0 = λ asked. IsRequest d.setting.file r.reading before after asked in
-      let t = turn before after w w' d d' x x' in
-      sends g signs count contents r.reading t unavailable outcome
-      (wants_list account (subst P asks request) rows some steps refl) sent
+      → Steps g signs count d d' x x' (ListAll account) (Listed rows)
+      → Sends contents reading w w' unavailable outcome → Handled (Ok (Step (ListAll account)))
+  list_wanted account rows some steps sent = λ before after request.
+      sends g signs count contents reading (turn before after w w' d d' x x') unavailable outcome
+      (wants_list account request rows some steps refl) sent
 
-  pub extracted : (account : AccountValue) (from to : ℕ) → Asks (Ok (Look (Extract account from to)))
-      → OnlyLooks g d.store d'.store → x' ≡ x
-      → ServesExtract g contents r.reading w w' d.store d'.store d.setting.file account from to outcome → Handled
-  extracted account from to asks looks signer served = λ before after request.
-      let P : Result Asked Refusal → Type 0 = λ asked. IsRequest d.setting.file r.reading before after asked in
-      answering_auditor g signs count contents r.reading (turn before after w w' d d' x x') account from to outcome
-      (subst P asks request) (record { store = looks; signer = signer }) served
+  pub extracted : (account : AccountValue) (from to : ℕ) → OnlyLooks g d.store d'.store → x' ≡ x
+      → ServesExtract g contents reading w w' d.store d'.store d.setting.file account from to outcome
+      → Handled (Ok (Look (Extract account from to)))
+  extracted account from to looks signer served = λ before after request.
+      answering_auditor g signs count contents reading (turn before after w w' d d' x x') account from to outcome
+      request (record { store = looks; signer = signer }) served
 
   -- a report that a look gives
-  pub reported : (report : Report) (a : AnswerValue) → Asks (Ok (Look report)) → OnlyLooks g d.store d'.store → x' ≡ x
-      → Reports g signs count r.reading d d' x' report a → Sends contents r.reading w w' a outcome → Handled
-  reported report a asks looks signer is sent = λ before after request.
-      let P : Result Asked Refusal → Type 0 = λ asked. IsRequest d.setting.file r.reading before after asked in
-      reporting g signs count contents r.reading (turn before after w w' d d' x x') report a outcome
-      (subst P asks request) (record { store = looks; signer = signer }) is sent
-
-  pub status_told : Asks (Ok (Look Status)) → OnlyLooks g d.store d'.store → x' ≡ x → (octets : Option ℕ)
-      → ServesStatus g contents r.reading w w' d.store d'.store d.setting.file.counter (count x') octets outcome
-      → Handled
-  status_told asks looks signer octets (inl tells) =
-      elim tells.sent [
-        | inl sent ↦
-            reported Status (success 200 media.Text tells.body) asks looks signer
-            (tells_text tells.body
-            (λ honest b stands. record { octets = octets; is = tells.is honest b stands }) refl) sent
-        | inr sent ↦ reported Status unavailable asks looks signer (wants_text refl) sent
-      ]
-  status_told asks looks signer octets (inr sent) = reported Status unavailable asks looks signer (wants_text refl) sent
-
--- the check that comes first fails, or gives what comes next
-pub checks : {A B : Type 0} (next : A → Result B Refusal) (m n : Result A Refusal) → n ≡ m → (m >>= next) ≡ (n >>= next)
-checks next m n same = subst (λ o. (o >>= next) ≡ (n >>= next)) same refl
+  pub reported : (report : Report) (octets : Option ℕ) → OnlyLooks g d.store d'.store → x' ≡ x
+      → AnswersReport g contents (record { reading = reading; faults = count x'; octets = octets }) w w' d d' report
+      outcome
+      → Handled (Ok (Look report))
+  reported report octets looks signer told = λ before after request.
+      reporting g signs count contents reading (turn before after w w' d d' x x') report told.0 outcome request
+      (record { store = looks; signer = signer }) (octets, told.1) told.2
 
 module _ {B X : Type 0} (g : Ghosts B) (signs : X → List ℕ → Result (List ℕ) SignerFault → X → Type 0) (count : X → ℕ)
     (old new : DeskValue B) where
@@ -104,12 +81,22 @@ module _ {B X : Type 0} (g : Ghosts B) (signs : X → List ℕ → Result (List 
   stamp_told (reply.Granted serial bytes) account reading query = plainly refl
   stamp_told (reply.Rejected rejected) account reading query = plainly refl
 
-  -- a deposit's number, with the status that tells whether it is new
-  pub deposit_told : (number : ℕ) (is_new : Bool) (account : AccountValue) (reading : ℤ) (reference bytes : List ℕ)
-      → Tells g signs count old new (Deposit account reading reference bytes) (Kept number is_new)
+  -- a deposit's number, with the status that tells whether it is new, or a refusal
+  kept_told : (number : ℕ) (is_new : Bool) (c : Command) → Tells g signs count old new c (Kept number is_new)
       (success (status_kept is_new) media.Text (decimal number ++ line_feed))
-  deposit_told number true account reading reference bytes = plainly refl
-  deposit_told number false account reading reference bytes = plainly refl
+  kept_told number true c = plainly refl
+  kept_told number false c = plainly refl
+
+  pub deposit_told : (c : Command) (outcome : Result Deposited Fault)
+      → Tells g signs count old new c (answered deposited_as outcome) (kept_answer outcome)
+  deposit_told c (Ok deposited) = kept_told deposited.number deposited.is_new c
+  deposit_told c (Err fault) = plainly refl
+
+  -- the octets of a deposit, or the reply with its token, or a refusal
+  pub shown_told : (c : Command) (m : Media) → m ≡ media_shown c → (outcome : Result (Vec ℕ Global) Fault)
+      → Tells g signs count old new c (answered shown_as outcome) (shown_answer m outcome)
+  shown_told c m is (Ok octets) = plainly (ap (λ of. success 200 of octets.items) is)
+  shown_told c m is (Err fault) = plainly refl
 
   -- a right that is given or taken, or a refusal
   pub right_told : (c : Command) → (outcome : Result (Unit {0}) Fault)

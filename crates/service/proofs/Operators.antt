@@ -18,9 +18,11 @@ use Rattle.desk.specs.CallContract.{DeskValue}
 use Rattle.desk.specs.Command.{Calibrate, Hold}
 use Rattle.service.specs.Answers.{AnswerValue, success}
 use Rattle.service.specs.Forms.{field_of}
-use Rattle.service.specs.Served.{Tells, plainly, backwards, SendsOrWants}
-use Rattle.service.specs.Status.{IsStateOver}
-use Rattle.service.specs.StateAnswers.{ServesStatus}
+use Rattle.service.specs.Handlers.{AnswersReport}
+use Rattle.service.specs.Reports.{IsBodyOf, Seen, tells}
+use Rattle.service.specs.Requests.{Status}
+use Rattle.service.specs.Served.{Sends, Tells, plainly, backwards}
+use Rattle.service.specs.Status.{IsStatusText}
 use Rattle.service.specs.declared.answer.Media.TheVariants as media
 use Rattle.service.specs.declared.served.Served.{Served}
 use Rattle.service.specs.Views.{added_answer}
@@ -35,23 +37,25 @@ pub found_later : (name : List ℕ) (field : List ℕ × List ℕ) (fields : Lis
 found_later name field fields is = rw is
 
 -- the state of the clock as it was looked at, and the store's count of faults since
-pub status_told : {B W : Type 0} (g : Ghosts B) (contents : W → Option (List ℕ)) (reading : ℤ) (w w' : W) (old new : B)
-    (counter file_counter : CounterValue) (asked : ℤ) (looked : Looked) (store signer : ℕ) (octets : Option ℕ)
-    (body : List ℕ) (outcome : Served) → IsStateOver counter looked store signer octets body → counter ≡ file_counter
-    → asked ≡ reading
-    → (g.honest new → (b : History) → Stands g b old → looked ≡ looked_at asked b) → store ≡ g.fault_count new
-    → SendsOrWants contents reading w w' (success 200 media.Text body) outcome
-    → ServesStatus g contents reading w w' old new file_counter signer octets outcome
-status_told g contents reading w w' old new counter file_counter asked looked store signer octets body outcome text of at
-    finds counted sent = inl (record {
-      body = body;
-      is = λ honest b stands.
-          let C : CounterValue → Type 0 = λ x. IsStateOver x looked store signer octets body in
-          let L : Looked → Type 0 = λ x. IsStateOver file_counter x store signer octets body in
-          let S : ℕ → Type 0 = λ x. IsStateOver file_counter (looked_at reading b) x signer octets body in
-          subst S counted (subst L (finds honest b stands ∙ ap (λ x. looked_at x b) at) (subst C of text));
-      sent = sent;
-    })
+pub status_told : {B W : Type 0} (g : Ghosts B) (contents : W → Option (List ℕ)) (seen : Seen) (w w' : W)
+    (old new : DeskValue B) (counter : CounterValue) (asked : ℤ) (looked : Looked) (store : ℕ) (body : List ℕ)
+    (outcome : Served) → IsStatusText counter looked store seen.faults seen.octets body
+    → counter ≡ old.setting.file.counter → asked ≡ seen.reading
+    → (g.honest new.store → (b : History) → Stands g b old.store → looked ≡ looked_at asked b)
+    → store ≡ g.fault_count new.store → Sends contents seen.reading w w' (success 200 media.Text body) outcome
+    → AnswersReport g contents seen w w' old new Status outcome
+unfolding IsBodyOf
+status_told g contents seen w w' old new counter asked looked store body outcome text of at finds counted sent = (
+  success 200 media.Text body,
+  tells body (λ honest b stands.
+      let C : CounterValue → Type 0 = λ x. IsStatusText x looked store seen.faults seen.octets body in
+      let L : Looked → Type 0 =
+      λ x. IsStatusText old.setting.file.counter x store seen.faults seen.octets body in
+      let S : ℕ → Type 0 =
+      λ x. IsStatusText old.setting.file.counter (looked_at seen.reading b) x seen.faults seen.octets body in
+      subst S counted (subst L (finds honest b stands ∙ ap (λ x. looked_at x b) at) (subst C of text))) refl,
+  sent,
+)
 
 module _ {B X : Type 0} (g : Ghosts B) (signs : X → List ℕ → Result (List ℕ) SignerFault → X → Type 0) (count : X → ℕ)
     (old new : DeskValue B) (a : AnswerValue) where

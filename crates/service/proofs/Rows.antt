@@ -12,6 +12,7 @@ use Rattle.service.specs.Numbers.{is_digits, length_in, number_in}
 use Rattle.service.specs.Routes.{methods_at, names_of, nothing, parameter, routes}
 use Rattle.service.specs.declared.refusal.Refusal.TheVariants as refusal
 use Rattle.service.specs.declared.routes.Action.TheVariants as action
+use Rattle.service.specs.declared.routes.DepositAction.TheVariants as deposit
 
 -- an answer in text: its status, the length of its body, the line that tells methods, and the body
 abbrev told_in_text : List ℕ → List ℕ → List ℕ → List ℕ → List ℕ
@@ -37,7 +38,7 @@ no_method = refl
 methods : names_of (record nothing { get = Some action.List; post = Some action.Keep }) ≡ codes "GET, POST"
 methods = refl
 
-other_methods : names_of (record nothing { put = Some action.Grant; delete = Some action.Revoke }) ≡ codes "PUT, DELETE"
+other_methods : names_of (record nothing { put = Some (action.Deposit deposit.Grant); delete = Some (action.Deposit deposit.Revoke) }) ≡ codes "PUT, DELETE"
 other_methods = refl
 
 -- a deposit that the clock's state refuses
@@ -59,17 +60,17 @@ at_query : methods_at (codes "/tsp?x=1") ≡ None
 unfolding routes matchit_on_literals
 at_query = refl
 
-at_readers : methods_at (codes "/deposits/1/readers") ≡ Some (record nothing { get = Some action.Readers })
+at_readers : methods_at (codes "/deposits/1/readers") ≡ Some (record nothing { get = Some (action.Deposit deposit.Readers) })
 unfolding routes matchit_on_literals
 at_readers = refl
 
 at_reader : methods_at (codes "/deposits/1/readers/bob")
-    ≡ Some (record nothing { put = Some action.Grant; delete = Some action.Revoke })
+    ≡ Some (record nothing { put = Some (action.Deposit deposit.Grant); delete = Some (action.Deposit deposit.Revoke) })
 unfolding routes matchit_on_literals
 at_reader = refl
 
 at_group : methods_at (codes "/deposits/1/groups/staff")
-    ≡ Some (record nothing { put = Some action.GrantGroup; delete = Some action.RevokeGroup })
+    ≡ Some (record nothing { put = Some (action.Deposit deposit.GrantGroup); delete = Some (action.Deposit deposit.RevokeGroup) })
 unfolding routes matchit_on_literals
 at_group = refl
 
@@ -77,7 +78,7 @@ at_deposits : methods_at (codes "/deposits") ≡ Some (record nothing { get = So
 unfolding routes matchit_on_literals
 at_deposits = refl
 
-at_token : methods_at (codes "/deposits/1/token") ≡ Some (record nothing { get = Some action.Token })
+at_token : methods_at (codes "/deposits/1/token") ≡ Some (record nothing { get = Some (action.Deposit deposit.Token) })
 unfolding routes matchit_on_literals
 at_token = refl
 
@@ -89,7 +90,7 @@ at_empty_number : methods_at (codes "/deposits/") ≡ None
 unfolding routes matchit_on_literals
 at_empty_number = refl
 
-at_odd_number : methods_at (codes "/deposits/1?x") ≡ Some (record nothing { get = Some action.Show })
+at_odd_number : methods_at (codes "/deposits/1?x") ≡ Some (record nothing { get = Some (action.Deposit deposit.Show) })
 unfolding routes matchit_on_literals
 at_odd_number = refl
 
@@ -168,7 +169,7 @@ unfolding wanted_at is_digits routes matchit_on_literals trim_ows
 query = refl
 
 -- a deposit is shown, and nothing is read behind the head
-a_deposit : wanted_by (head_of (codes "GET") (codes "/deposits/1") []) ≡ Ok (record { action = action.Show; count = 0 })
+a_deposit : wanted_by (head_of (codes "GET") (codes "/deposits/1") []) ≡ Ok (record { action = action.Deposit deposit.Show; count = 0 })
 unfolding wanted_at routes matchit_on_literals
 a_deposit = refl
 

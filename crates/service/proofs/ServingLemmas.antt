@@ -1,5 +1,5 @@
 -- What is written, and why.
-use Rattle.std.proofs.Common.{◌≡◌, ◌∙◌, ℕ, ℤ, true, List, Option, Result, Ok, Err, length, take}
+use Rattle.std.proofs.Common.{◌≡◌, ◌∙◌, ℕ, ℤ, true, List, Option, None, Result, Ok, Err, length, take}
 use Rattle.std.proofs.Common.{ap, arith, refl, inl, inr, subst, sym}
 use Rattle.std.proofs.lemmas.List.{take_all}
 use Rattle.std.specs.Io.KnownBytes.{Consumes, IsAtEnd}
@@ -8,16 +8,17 @@ use Rattle.cms.specs.declared.signer.SignerFault.{SignerFault}
 use Rattle.desk.specs.CallContract.{DeskValue}
 use Rattle.desk.specs.Command.{Command, Answer, Calibrate}
 use Rattle.policy.specs.Record.{AccountValue, PolicyValue}
-use Rattle.service.specs.Answers.{AnswerValue, refusal_answer}
+use Rattle.service.specs.Answers.{AnswerValue, refusal_answer, unavailable}
 use Rattle.service.specs.Refusals.{refusal_of_extract}
+use Rattle.service.specs.Reports.{IsRefusedBy, keeps_back}
 use Rattle.service.specs.ExtractAnswers.{ServesExtract, extracted, kept_back}
 use Rattle.service.specs.Known.{IsAnswerable, IsDue, checked, malformed, out_of_memory, out_of_memory_for_body}
 use Rattle.service.specs.Received.{ReceivedValue, in_body, in_head}
 use Rattle.service.specs.Requests.{Report, Step, Look, Extract, IsEarly, IsRequest, asked_by, cut_body, cut_head, head}
 use Rattle.service.specs.Requests.{headless, nothing, refused_head, whole}
-use Rattle.service.specs.Served.{Turn, IsIdle, IsSilent, IsLook, Reads, Sends, SendsOctets, unavailable, Takes}
+use Rattle.service.specs.Served.{Turn, IsIdle, IsSilent, IsLook, Reads, Sends, SendsOctets, Takes}
 use Rattle.service.specs.Served.{IsAnswer, refuses, replies, turns_back, looks, wants_early, Tells, plainly}
-use Rattle.service.specs.Served.{backwards, Reports}
+use Rattle.service.specs.Served.{backwards, ReportsAt}
 use Rattle.service.specs.Served.{Extracts, Serves}
 use Rattle.service.specs.Views.{head_view}
 use Rattle.service.specs.declared.due.Due.TheVariants as due
@@ -124,7 +125,7 @@ module _ {W B X : Type 0} (g : Ghosts B) (signs : X → List ℕ → Result (Lis
 
   -- a report is told
   pub reporting : (r : Report) (a : AnswerValue) (outcome : Served) → Reads reading t (Ok (Look r))
-      → IsLook g signs count t → Reports g signs count reading t.desk t.desk_after t.signer_after r a
+      → IsLook g signs count t → ReportsAt g signs count reading t.desk t.desk_after t.signer_after r a
       → Sends contents reading t.writer t.writer_after a outcome → Serves g signs count contents reading t outcome
   reporting r a outcome reads look is sent = sends a outcome (looks r reads look is) sent
 
@@ -141,6 +142,7 @@ module _ {W B X : Type 0} (g : Ghosts B) (signs : X → List ℕ → Result (Lis
       → ServesExtract g contents reading t.writer t.writer_after t.desk.store t.desk_after.store t.desk.setting.file account
       from to outcome
       → Serves g signs count contents reading t outcome
+  unfolding IsRefusedBy
   answering_auditor account from to outcome reads look (extracted allowed sent told) =
       extracting outcome told (record {
         account = account;
@@ -153,11 +155,16 @@ module _ {W B X : Type 0} (g : Ghosts B) (signs : X → List ℕ → Result (Lis
         told = told;
       })
   answering_auditor account from to outcome reads look (kept_back f comes unasked counted written sent) =
-      reporting (Extract account from to) (refusal_answer (refusal_of_extract f)) outcome reads look (record {
-        fault = f;
-        comes = comes;
-        unasked = unasked;
-        counted = counted;
-        written = written;
-        tells = refl;
-      }) sent
+      reporting (Extract account from to) (refusal_answer (refusal_of_extract f)) outcome reads look (
+        None,
+        keeps_back (refusal_of_extract f)
+            (record {
+              fault = f;
+              comes = comes;
+              unasked = unasked;
+              counted = counted;
+              written = written;
+              tells = refl;
+            })
+            refl,
+      ) sent

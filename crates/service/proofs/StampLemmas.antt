@@ -10,13 +10,12 @@ use Rattle.desk.specs.Batches.{Question, stamp_for}
 use Rattle.desk.specs.Together.{question_view}
 use Rattle.desk.specs.declared.batch.Asked.{Asked as AskedStamp}
 use Rattle.policy.specs.Record.{PolicyValue}
-use Rattle.service.specs.Checks.{◌>>=◌, WantedValue, active_account, is_stamp, watcher_shown, wanted_by}
+use Rattle.service.specs.Checks.{◌>>=◌, WantedValue, is_stamp, wanted_by}
 use Rattle.service.specs.Heads.{HeadValue, IsHead, BeginsWith, head_value}
 use Rattle.service.specs.Known.{IsAnswerable, IsDue, IsRefused, checked, malformed, out_of_memory}
 use Rattle.service.specs.Known.{out_of_memory_for_body}
 use Rattle.service.specs.Received.{IsPartial, ReceivedValue, in_body, in_head}
-use Rattle.service.specs.Requests.{Asked, IsRequest, Step, account_and_number, account_and_range, account_and_reference}
-use Rattle.service.specs.Requests.{asked_by, calibration_asked, hold_asked}
+use Rattle.service.specs.Requests.{Asked, Found, IsRequest, Step, asked_by, asked_of, found_by}
 use Rattle.service.specs.Requests.{cut_body, cut_head, headless, refused_head, whole}
 use Rattle.service.specs.Stamps.{AsksStamp}
 use Rattle.service.specs.Views.{head_view, result_by}
@@ -26,6 +25,7 @@ use Rattle.service.specs.declared.head.Head.{Head}
 use Rattle.service.specs.declared.refusal.Refusal.{Refusal}
 use Rattle.service.specs.declared.routes.Action.{Action}
 use Rattle.service.specs.declared.routes.Action.TheVariants as action
+use Rattle.service.specs.declared.routes.DepositAction.TheVariants as deposit
 use Rattle.service.proofs.KnownLemmas.{no_octets}
 use Rattle.service.proofs.ServingLemmas.{answerable}
 
@@ -36,37 +36,18 @@ bound (Ok a) next asked never is = never a is
 bound (Err f) next asked never is = cc
 
 -- a request for something else asks for no stamp
+no_question : (reading : ℤ) (h : HeadValue) (body : List ℕ) (a : Action) (found : Found a) (q : Question)
+    → asked_of reading h body a found ≡ Step (stamp_for q) → (a ≡ action.Stamp → ⊥) → ⊥
+no_question reading h body action.Stamp found q is other = other refl
+no_question reading h body (action.Deposit deposit.Readers) found q is other = cc
+no_question reading h body (action.Deposit what) found q is other = cc
+no_question reading h body a found q is other = cc
+
 pub only_stamp : (file : PolicyValue) (reading : ℤ) (h : HeadValue) (body : List ℕ) (a : Action) (q : Question)
     → asked_by file reading h body a ≡ Ok (Step (stamp_for q)) → (a ≡ action.Stamp → ⊥) → ⊥
-only_stamp file reading h body action.Stamp q is other = other refl
-only_stamp file reading h body action.Keep q is other =
-    bound (account_and_reference file h) _ (Step (stamp_for q)) (λ a same. cc) is
-only_stamp file reading h body action.List q is other =
-    bound (active_account file h) _ (Step (stamp_for q)) (λ a same. cc) is
-only_stamp file reading h body action.Show q is other =
-    bound (account_and_number file h) _ (Step (stamp_for q)) (λ a same. cc) is
-only_stamp file reading h body action.Token q is other =
-    bound (account_and_number file h) _ (Step (stamp_for q)) (λ a same. cc) is
-only_stamp file reading h body action.Grant q is other =
-    bound (account_and_number file h) _ (Step (stamp_for q)) (λ a same. cc) is
-only_stamp file reading h body action.Revoke q is other =
-    bound (account_and_number file h) _ (Step (stamp_for q)) (λ a same. cc) is
-only_stamp file reading h body action.GrantGroup q is other =
-    bound (account_and_number file h) _ (Step (stamp_for q)) (λ a same. cc) is
-only_stamp file reading h body action.RevokeGroup q is other =
-    bound (account_and_number file h) _ (Step (stamp_for q)) (λ a same. cc) is
-only_stamp file reading h body action.Extract q is other =
-    bound (account_and_range file h) _ (Step (stamp_for q)) (λ a same. cc) is
-only_stamp file reading h body action.Calibrate q is other =
-    bound (calibration_asked file h body) _ (Step (stamp_for q)) (λ a same. cc) is
-only_stamp file reading h body action.Hold q is other =
-    bound (hold_asked file h body) _ (Step (stamp_for q)) (λ a same. cc) is
-only_stamp file reading h body action.Status q is other =
-    bound (watcher_shown file h) _ (Step (stamp_for q)) (λ a same. cc) is
-only_stamp file reading h body action.Account q is other =
-    bound (active_account file h) _ (Step (stamp_for q)) (λ a same. cc) is
-only_stamp file reading h body action.Readers q is other =
-    bound (account_and_number file h) _ (Step (stamp_for q)) (λ a same. cc) is
+only_stamp file reading h body a q is other =
+    bound (found_by file h body a) (λ found. Ok (asked_of reading h body a found)) (Step (stamp_for q))
+    (λ found same. no_question reading h body a found q (cc) other) is
 
 -- octets are a head and its body, which ask for a stamp
 pub record IsStampRequest (file : PolicyValue) (reading : ℤ) (octets : List ℕ) (q : Question) : Type 0 where
@@ -181,20 +162,7 @@ module _ (file : PolicyValue) (reading : ℤ) (r : ReceivedValue) (q : Question)
 
 stamp_is : (a : Action) → is_stamp a ≡ true → a ≡ action.Stamp
 stamp_is action.Stamp is = refl
-stamp_is action.Keep is = cc
-stamp_is action.List is = cc
-stamp_is action.Show is = cc
-stamp_is action.Token is = cc
-stamp_is action.Grant is = cc
-stamp_is action.Revoke is = cc
-stamp_is action.GrantGroup is = cc
-stamp_is action.RevokeGroup is = cc
-stamp_is action.Extract is = cc
-stamp_is action.Calibrate is = cc
-stamp_is action.Hold is = cc
-stamp_is action.Status is = cc
-stamp_is action.Account is = cc
-stamp_is action.Readers is = cc
+stamp_is other is = cc
 
 module _ (file : PolicyValue) (reading : ℤ) (r : ReceivedValue) (a : Action) (head : Head) (body : Bor (List ℕ))
     (is : IsDue r (due.Answer a head body)) where

@@ -1,5 +1,5 @@
--- What the counter tells an account of itself: lines of a word and what it names, of the policy file and of a look at the
--- store.
+-- What the counter tells an account of itself: lines of a word and what it names, of the policy file and of a look at
+-- the store.
 use Rattle.std.specs.Prelude.{◌≡◌, ℕ, Bool, List, [], ◌++◌, codes, Option, Some, None, if◌then◌else◌}
 use Rattle.std.specs.Fmt.{decimal}
 use Rattle.std.specs.List.{flat_map}

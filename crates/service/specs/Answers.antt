@@ -79,6 +79,10 @@ refusal_answer r = record {
   body = refusal_body r;
 }
 
+-- the counter can't answer now
+abbrev pub unavailable : AnswerValue
+unavailable = refusal_answer refusal.Unavailable
+
 -- an answer of status 200, or of another that tells success
 abbrev pub success : ℕ → Media → List ℕ → AnswerValue
 success status m body = record { status = status; media = m; allow = None; body = body }

@@ -4,9 +4,11 @@ use Rattle.book.specs.declared.standing.Standing.{Ghosts}
 use Rattle.cms.specs.declared.signer.SignerFault.{SignerFault}
 use Rattle.desk.specs.CallContract.{DeskValue}
 use Rattle.service.specs.Heads.{HeadValue}
-use Rattle.service.specs.Requests.{IsRequest, asked_by}
-use Rattle.service.specs.Served.{Serves}
-use Rattle.service.specs.declared.routes.Action.{Action}
+use Rattle.service.specs.Answers.{AnswerValue}
+use Rattle.service.specs.Reports.{Reports, Seen}
+use Rattle.service.specs.Requests.{Asked, IsRequest, Report}
+use Rattle.service.specs.Served.{Sends, Serves}
+use Rattle.service.specs.declared.refusal.Refusal.{Refusal}
 use Rattle.service.specs.declared.served.Served.{Served}
 
 -- a whole request, and the clock's reading
@@ -15,14 +17,19 @@ pub record RequestValue : Type 0 where
   pub head : HeadValue
   pub body : List ℕ
 
+module _ {W B : Type 0} (g : Ghosts B) (contents : W → Option (List ℕ)) where
+  -- a report is answered
+  abbrev pub AnswersReport : Seen → W → W → DeskValue B → DeskValue B → Report → Served → Type 0
+  AnswersReport seen w w' old new r outcome =
+      (a : AnswerValue) × Reports g seen old new r a × Sends contents seen.reading w w' a outcome
+
 module _ {W B X : Type 0} (g : Ghosts B) (signs : X → List ℕ → Result (List ℕ) SignerFault → X → Type 0) (count : X → ℕ)
     (contents : W → Option (List ℕ)) where
-  -- what is served of an input from which the request was read that asks for that action
-  abbrev pub Handles : RequestValue → Action → W → W → DeskValue B → DeskValue B → X → X → Served → Type 0
-  Handles r action w w' d d' x x' outcome =
-      (before after : Option (List ℕ))
-      → IsRequest d.setting.file r.reading before after (asked_by d.setting.file r.reading r.head r.body action)
-      → Serves g signs count contents r.reading (record {
+  -- what is served of an input from which a request was read that asks for this
+  abbrev pub Handles : ℤ → Result Asked Refusal → W → W → DeskValue B → DeskValue B → X → X → Served → Type 0
+  Handles reading asked w w' d d' x x' outcome =
+      (before after : Option (List ℕ)) → IsRequest d.setting.file reading before after asked
+      → Serves g signs count contents reading (record {
         input = before;
         input_after = after;
         writer = w;

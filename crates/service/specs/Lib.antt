@@ -16,6 +16,5 @@ pub mod Requests
 pub mod Routes
 pub mod Served
 pub mod Stamps
-pub mod StateAnswers
 pub mod Status
 pub mod Views

@@ -1,5 +1,5 @@
--- What the owner of a deposit is told of its readers: a line for each account and each group of the policy file that has
--- the right to read it.
+-- What the owner of a deposit is told of its readers: a line for each account and each group of the policy file that
+-- has the right to read it.
 use Rattle.std.specs.Prelude.{ℕ, Bool, false, not, ◌&&◌, List, [], ◌++◌, codes, map, Option, Some, None, if◌then◌else◌}
 use Rattle.std.specs.List.{flat_map}
 use Rattle.std.specs.Str.{bytes_eq}

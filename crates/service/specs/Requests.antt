@@ -16,6 +16,8 @@ use Rattle.service.specs.declared.refusal.Refusal.{Refusal}
 use Rattle.service.specs.declared.refusal.Refusal.TheVariants as refusal
 use Rattle.service.specs.declared.routes.Action.{Action}
 use Rattle.service.specs.declared.routes.Action.TheVariants as action
+use Rattle.service.specs.declared.routes.DepositAction.{DepositAction}
+use Rattle.service.specs.declared.routes.DepositAction.TheVariants as deposit
 
 -- What is told out of the desk's store: to an account, an extract of the stamps with serial numbers from the first
 -- number on and up to the second; the counter's state; to an account, what it may ask for and has used, and who reads
@@ -26,10 +28,21 @@ pub data Report : Type 0 where
   OfAccount : AccountValue → Report
   OfReaders : AccountValue → ℕ → Report
 
+-- it is one text, or none; an extract is written row by row
+abbrev pub IsText : Report → Type 0
+IsText (Extract account from to) = ⊥
+IsText other = Unit {0}
+
 -- What is asked for: that the desk takes a command's step, or a report.
 pub data Asked : Type 0 where
   Step : Command → Asked
   Look : Report → Asked
+
+-- it is looked up row by row, and given up where the output has no more time
+abbrev pub IsByRows : Result Asked Refusal → Type 0
+IsByRows (Ok (Step (ListAll account))) = Unit {0}
+IsByRows (Ok (Look (Extract account from to))) = Unit {0}
+IsByRows other = ⊥
 
 -- an active account and the reference of its deposit
 abbrev pub account_and_reference : PolicyValue → HeadValue → Result (AccountValue × List ℕ) Refusal
@@ -64,53 +77,58 @@ hold_asked file h form = do
   account ← operator_shown file h
   hold_stated form
 
+-- what the checks of a whole request find
+abbrev pub Found : Action → Type 0
+Found action.Stamp = Option AccountValue
+Found action.Keep = AccountValue × List ℕ
+Found action.List = AccountValue
+Found (action.Deposit what) = AccountValue × ℕ
+Found action.Extract = AccountValue × ℕ × ℕ
+Found action.Calibrate = CalibrationValue
+Found action.Hold = HoldValue
+Found action.Status = AccountValue
+Found action.Account = AccountValue
+
+-- those checks
+abbrev pub found_by : PolicyValue → HeadValue → List ℕ → (a : Action) → Result (Found a) Refusal
+found_by file h body action.Stamp = account_shown file h
+found_by file h body action.Keep = account_and_reference file h
+found_by file h body action.List = active_account file h
+found_by file h body (action.Deposit what) = account_and_number file h
+found_by file h body action.Extract = account_and_range file h
+found_by file h body action.Calibrate = calibration_asked file h body
+found_by file h body action.Hold = hold_asked file h body
+found_by file h body action.Status = watcher_shown file h
+found_by file h body action.Account = active_account file h
+
+-- what an account asks for of the deposit with a number; the name is that of a reader
+abbrev pub asked_of_deposit : AccountValue → ℕ → List ℕ → DepositAction → Asked
+asked_of_deposit account number name deposit.Show = Step (Show account number)
+asked_of_deposit account number name deposit.Token = Step (Token account number)
+asked_of_deposit account number name deposit.Readers = Look (OfReaders account number)
+asked_of_deposit account number name deposit.Grant = Step (Grant account number (readers.Account name))
+asked_of_deposit account number name deposit.Revoke = Step (Revoke account number (readers.Account name))
+asked_of_deposit account number name deposit.GrantGroup = Step (Grant account number (readers.Group name))
+asked_of_deposit account number name deposit.RevokeGroup = Step (Revoke account number (readers.Group name))
+
+-- what a request asks for whose checks find this
+abbrev pub asked_of : ℤ → HeadValue → List ℕ → (a : Action) → Found a → Asked
+asked_of reading h body action.Stamp account = Step (Stamp account reading body)
+asked_of reading h body action.Keep (account, reference) = Step (Deposit account reading reference body)
+asked_of reading h body action.List account = Step (ListAll account)
+asked_of reading h body (action.Deposit what) (account, number) =
+    asked_of_deposit account number (parameter (codes "name") h.target) what
+asked_of reading h body action.Extract (account, from, to) = Look (Extract account from to)
+asked_of reading h body action.Calibrate calibration = Step (Calibrate calibration)
+asked_of reading h body action.Hold hold = Step (Hold hold)
+asked_of reading h body action.Status account = Look Status
+asked_of reading h body action.Account account = Look (OfAccount account)
+
 -- The checks of a whole request, and what it asks for; the reading is the clock's, in microseconds.
 abbrev pub asked_by : PolicyValue → ℤ → HeadValue → List ℕ → Action → Result Asked Refusal
-asked_by file reading h body action.Stamp = do
-  account ← account_shown file h
-  Ok (Step (Stamp account reading body))
-asked_by file reading h body action.Keep = do
-  (account, reference) ← account_and_reference file h
-  Ok (Step (Deposit account reading reference body))
-asked_by file reading h body action.List = do
-  account ← active_account file h
-  Ok (Step (ListAll account))
-asked_by file reading h body action.Show = do
-  (account, number) ← account_and_number file h
-  Ok (Step (Show account number))
-asked_by file reading h body action.Token = do
-  (account, number) ← account_and_number file h
-  Ok (Step (Token account number))
-asked_by file reading h body action.Grant = do
-  (account, number) ← account_and_number file h
-  Ok (Step (Grant account number (readers.Account (parameter (codes "name") h.target))))
-asked_by file reading h body action.Revoke = do
-  (account, number) ← account_and_number file h
-  Ok (Step (Revoke account number (readers.Account (parameter (codes "name") h.target))))
-asked_by file reading h body action.GrantGroup = do
-  (account, number) ← account_and_number file h
-  Ok (Step (Grant account number (readers.Group (parameter (codes "name") h.target))))
-asked_by file reading h body action.RevokeGroup = do
-  (account, number) ← account_and_number file h
-  Ok (Step (Revoke account number (readers.Group (parameter (codes "name") h.target))))
-asked_by file reading h body action.Extract = do
-  (account, from, to) ← account_and_range file h
-  Ok (Look (Extract account from to))
-asked_by file reading h body action.Calibrate = do
-  calibration ← calibration_asked file h body
-  Ok (Step (Calibrate calibration))
-asked_by file reading h body action.Hold = do
-  hold ← hold_asked file h body
-  Ok (Step (Hold hold))
-asked_by file reading h body action.Status = do
-  account ← watcher_shown file h
-  Ok (Look Status)
-asked_by file reading h body action.Account = do
-  account ← active_account file h
-  Ok (Look (OfAccount account))
-asked_by file reading h body action.Readers = do
-  (account, number) ← account_and_number file h
-  Ok (Look (OfReaders account number))
+asked_by file reading h body a = do
+  found ← found_by file h body a
+  Ok (asked_of reading h body a found)
 
 -- What was read, from what a reader had left to what it has left then, and no octet behind it:
 pub data IsRequest (file : PolicyValue) (reading : ℤ) (old new : Option (List ℕ)) (asked : Result Asked Refusal)

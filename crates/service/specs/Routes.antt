@@ -13,6 +13,7 @@ use Rattle.matchit.specs.declared.error.InsertError.{InsertError}
 use Rattle.service.specs.declared.routes.Methods.{Methods}
 use Rattle.service.specs.declared.routes.Action.{Action}
 use Rattle.service.specs.declared.routes.Action.TheVariants as action
+use Rattle.service.specs.declared.routes.DepositAction.TheVariants as deposit
 
 -- no method does anything
 abbrev pub nothing : Methods
@@ -30,16 +31,19 @@ table =
     ∷ (codes "/status", record nothing { get = Some action.Status })
     ∷ (codes "/account", record nothing { get = Some action.Account })
     ∷ (codes "/deposits", record nothing { get = Some action.List; post = Some action.Keep })
-    ∷ (codes "/deposits/{number}", record nothing { get = Some action.Show })
-    ∷ (codes "/deposits/{number}/token", record nothing { get = Some action.Token })
-    ∷ (codes "/deposits/{number}/readers", record nothing { get = Some action.Readers })
+    ∷ (codes "/deposits/{number}", record nothing { get = Some (action.Deposit deposit.Show) })
+    ∷ (codes "/deposits/{number}/token", record nothing { get = Some (action.Deposit deposit.Token) })
+    ∷ (codes "/deposits/{number}/readers", record nothing { get = Some (action.Deposit deposit.Readers) })
     ∷ (
       codes "/deposits/{number}/readers/{name}",
-      record nothing { put = Some action.Grant; delete = Some action.Revoke },
+      record nothing { put = Some (action.Deposit deposit.Grant); delete = Some (action.Deposit deposit.Revoke) },
     )
     ∷ (
       codes "/deposits/{number}/groups/{name}",
-      record nothing { put = Some action.GrantGroup; delete = Some action.RevokeGroup },
+      record nothing {
+        put = Some (action.Deposit deposit.GrantGroup);
+        delete = Some (action.Deposit deposit.RevokeGroup);
+      },
     )
     ∷ (codes "/audit/{from}/{to}", record nothing { get = Some action.Extract })
     ∷ []

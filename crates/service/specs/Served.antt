@@ -1,5 +1,5 @@
 -- What `serve_one` does: it reads one request, has the desk take the one step that it asks for, and writes one answer.
-use Rattle.std.specs.Prelude.{◌≡◌, ◌≢◌, ◌⊎◌, ℕ, ◌<◌, ℤ, List, [], length, take, Option, Result, Ok, Err}
+use Rattle.std.specs.Prelude.{◌≡◌, ◌⊎◌, ℕ, ◌<◌, ℤ, List, [], length, take, Option, Result, Ok, Err}
 use Rattle.std.specs.Io.KnownBytes.{Appends, Consumes, IsAtEnd}
 use Rattle.book.specs.declared.standing.Standing.{Ghosts}
 use Rattle.cms.specs.declared.signer.SignerFault.{SignerFault}
@@ -12,19 +12,15 @@ use Rattle.book.specs.Stands.{Stands, OnlyLooks}
 use Rattle.book.specs.Rights.{ListedValue}
 use Rattle.desk.specs.Command.{Command, Stamp, Deposit, ListAll, Calibrate, Answer, Listed, Rejected, Refused}
 use Rattle.desk.specs.declared.fault.Fault.TheVariants as fault
-use Rattle.desk.specs.Calls.{looked_at}
 use Rattle.desk.specs.Findings.{HoldsUnasked}
 use Rattle.desk.specs.CallContract.{DeskValue, IsStep, no_signer, with_signer}
-use Rattle.audit.specs.Auditor.{IsAllowed, ComesWhere, IfUnasked}
-use Rattle.audit.specs.Fault.{count_after}
-use Rattle.audit.specs.declared.fault.ExtractFault.{ExtractFault}
-use Rattle.audit.specs.declared.fault.ExtractFault.TheVariants.{Write}
+use Rattle.audit.specs.Auditor.{IsAllowed}
+use Rattle.audit.specs.Failures.{HasFailed}
 use Rattle.service.specs.Answers.{AnswerValue, answer_text, answer_to, extract_answer, refusal_answer, success}
-use Rattle.service.specs.Refusals.{refusal_of_extract, status_of}
-use Rattle.service.specs.Reports.{ReportsText, IsAccountText, ReportsReaders}
-use Rattle.service.specs.Requests.{Asked, Report, Step, Look, Extract, Status, OfAccount, OfReaders, IsRequest, IsPart}
-use Rattle.service.specs.Requests.{IsEarly}
-use Rattle.service.specs.Status.{IsStatusText}
+use Rattle.service.specs.Answers.{unavailable}
+use Rattle.service.specs.Refusals.{status_of}
+use Rattle.service.specs.Reports.{Reports}
+use Rattle.service.specs.Requests.{Asked, Report, Step, Look, Extract, IsRequest, IsPart, IsEarly}
 use Rattle.service.specs.declared.answer.Media.TheVariants as media
 use Rattle.service.specs.declared.refusal.Refusal.{Refusal}
 use Rattle.service.specs.declared.refusal.Refusal.TheVariants as refusal
@@ -69,14 +65,6 @@ SendsText contents old new status text (served.WriteFailed told sent) =
 abbrev pub Sends : {W : Type 0} → (W → Option (List ℕ)) → ℤ → W → W → AnswerValue → Served → Type 0
 Sends contents reading old new a outcome = SendsText contents old new a.status (answer_text reading a) outcome
 
-abbrev pub unavailable : AnswerValue
-unavailable = refusal_answer refusal.Unavailable
-
--- that answer is written, or, as memory is wanting for its body, that the counter can't answer now
-abbrev pub SendsOrWants : {W : Type 0} → (W → Option (List ℕ)) → ℤ → W → W → AnswerValue → Served → Type 0
-SendsOrWants contents reading old new a outcome =
-    Sends contents reading old new a outcome ⊎ Sends contents reading old new unavailable outcome
-
 -- Of the octets of an extract's answer, whatever the store returns: a whole one has the length that it states; and of
 -- another, as many were written as is told.
 abbrev pub SendsOctets : {W : Type 0} → (W → Option (List ℕ)) → ℤ → W → W → Served → Type 0
@@ -86,6 +74,12 @@ SendsOctets contents reading old new (served.Answered told) =
 SendsOctets contents reading old new served.ReadFailed = ⊥
 SendsOctets contents reading old new (served.WriteFailed told sent) =
     (told ≡ 200) × (octets : List ℕ) × (length octets ≡ sent) × Appends (contents old) (contents new) octets
+
+-- As far as the writer tells its failures (`audit::Output`): a write failed where an answer isn't told as written whole,
+-- and else none did.
+abbrev pub TellsFailure : (before after : Option ℕ) → Served → Type 0
+TellsFailure before after (served.WriteFailed status sent) = HasFailed before after
+TellsFailure before after other = after ≡ before
 
 -- the desk's reply to a calibration that is before the latest
 abbrev pub turned_back : Answer
@@ -131,29 +125,12 @@ module _ {B X : Type 0} (g : Ghosts B) (signs : X → List ℕ → Result (List 
     pub store : OnlyLooks g t.desk.store t.desk_after.store
     pub signer : t.signer_after ≡ t.signer
 
-  -- the counter's state at the reading
-  abbrev pub IsStatus : ℤ → DeskValue B → DeskValue B → X → List ℕ → Type 0
-  IsStatus reading old new signer body =
-      g.honest new.store → (b : History) → Stands g b old.store
-      → IsStatusText old.setting.file.counter (looked_at reading b) (g.fault_count new.store) (count signer) body
-
-  -- An extract is refused, where that refusal comes; the store's are counted. One that can't be written isn't.
-  pub record ReportsNoExtract (old new : DeskValue B) (account : AccountValue) (from to : ℕ) (a : AnswerValue)
-      : Type 0 where
-    pub fault : ExtractFault
-    pub comes : ComesWhere old.setting.file account from to fault
-    pub unasked : IfUnasked (new.store ≡ old.store) fault
-    pub counted : g.fault_count new.store ≡ count_after fault (g.fault_count old.store)
-    pub written : fault ≢ Write
-    pub tells : a ≡ refusal_answer (refusal_of_extract fault)
-
   -- The answer with a report, at the reading: the desk was `old` before the look and is `new` after it. An extract that
   -- is written row by row stands below (`Extracts`).
-  abbrev pub Reports : ℤ → DeskValue B → DeskValue B → X → Report → AnswerValue → Type 0
-  Reports reading old new signer (Extract account from to) a = ReportsNoExtract old new account from to a
-  Reports reading old new signer Status a = ReportsText (IsStatus reading old new signer) a
-  Reports reading old new signer (OfAccount account) a = ReportsText (IsAccountText g old new account reading) a
-  Reports reading old new signer (OfReaders account number) a = ReportsReaders g old new account number a
+  abbrev pub ReportsAt : ℤ → DeskValue B → DeskValue B → X → Report → AnswerValue → Type 0
+  ReportsAt reading old new signer r a =
+      (octets : Option ℕ)
+      × Reports g (record { reading = reading; faults = count signer; octets = octets }) old new r a
 
   -- why an answer is written
   pub data IsAnswer {W : Type 0} (reading : ℤ) (t : Turn W B X) (a : AnswerValue) : Type 0 where
@@ -167,7 +144,7 @@ module _ {B X : Type 0} (g : Ghosts B) (signs : X → List ℕ → Result (List 
         → IsBackwardsFor t.desk t.desk_after c → a ≡ refusal_answer refusal.Backwards → IsAnswer reading t a
     -- the report that the request asks for takes a look, and no step
     looks : (r : Report) → Reads reading t (Ok (Look r)) → IsLook t
-        → Reports reading t.desk t.desk_after t.signer_after r a → IsAnswer reading t a
+        → ReportsAt reading t.desk t.desk_after t.signer_after r a → IsAnswer reading t a
     -- memory is wanting before the body is read
     wants_early : IsEarly t.input t.input_after → IsIdle t → a ≡ unavailable → IsAnswer reading t a
     -- memory is wanting for the lines of a list that isn't empty, once that step is taken

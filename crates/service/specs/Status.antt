@@ -88,13 +88,8 @@ Gives counter clock true = IsGood counter clock
 Gives counter clock false = IsGood counter clock → ⊥
 
 -- the text is the state that was looked at, with these octets of the database
-pub record IsStateOver (counter : CounterValue) (looked : Looked) (store signer : ℕ) (octets : Option ℕ) (text : List ℕ)
-    : Type 0 where
+pub record IsStatusText (counter : CounterValue) (looked : Looked) (store signer : ℕ) (octets : Option ℕ)
+    (text : List ℕ) : Type 0 where
   pub gives : Bool
   pub given : Gives counter looked.clock gives
   pub lines : text ≡ status_text counter looked gives store signer octets
-
--- the text is the state that was looked at
-pub record IsStatusText (counter : CounterValue) (looked : Looked) (store signer : ℕ) (text : List ℕ) : Type 0 where
-  pub octets : Option ℕ
-  pub is : IsStateOver counter looked store signer octets text

@@ -1,11 +1,13 @@
 -- What the program's types stand for.
-use Rattle.std.specs.Prelude.{ℕ, Bool, true, false, List, [], ◌++◌, length, map, All, Option}
+use Rattle.std.specs.Prelude.{◌≡◌, ℕ, Bool, true, false, List, [], ◌++◌, length, map, All, codes, Option, Vec}
 use Rattle.std.specs.Prelude.{Result, Ok, Err}
+use Rattle.std.specs.declared.alloc.Global.{Global}
 use Rattle.std.proofs.Common.{Bor}
 use Rattle.httparse.specs.Spans.{IsHeaderWithin, header_bytes}
 use Rattle.policy.specs.Record.{AccountValue}
-use Rattle.policy.specs.View.{account_view}
+use Rattle.policy.specs.View.{account_view, policy_view}
 use Rattle.policy.specs.declared.entries.Account.{Account}
+use Rattle.policy.specs.declared.policy.Policy.{Policy}
 use Rattle.decide.specs.View.{account_asked}
 use Rattle.std.specs.Fmt.{decimal}
 use Rattle.der.specs.Node.{encoding}
@@ -19,16 +21,27 @@ use Rattle.desk.specs.declared.reply.Reply.TheVariants as reply
 use Rattle.service.specs.Answers.{AnswerValue, created, success, line_feed, refusal_answer}
 use Rattle.service.specs.Refusals.{refusal_of}
 use Rattle.service.specs.declared.answer.Media.TheVariants as media
+use Rattle.book.specs.Values.{calibration_view, hold_view}
+use Rattle.desk.specs.Batches.{stamp_for}
+use Rattle.desk.specs.Command.{Deposit, ListAll, Calibrate, Hold}
+use Rattle.desk.specs.Together.{question_view}
 use Rattle.service.specs.Checks.{WantedValue}
+use Rattle.service.specs.Reports.{Seen}
+use Rattle.service.specs.Requests.{Asked, Step, Look, Extract, Status, OfAccount, asked_by, asked_of_deposit}
+use Rattle.service.specs.Routes.{parameter}
 use Rattle.service.specs.Fields.{Stated, Never, Once, Twice}
 use Rattle.service.specs.Heads.{HeadValue}
 use Rattle.service.specs.Handlers.{RequestValue}
+use Rattle.service.specs.declared.answer.Media.{Media}
+use Rattle.service.specs.declared.checks.Found.{Found}
+use Rattle.service.specs.declared.checks.Found.TheVariants as found
 use Rattle.service.specs.declared.context.Context.{Context}
 use Rattle.service.specs.declared.fields.Occurrence.{Occurrence}
 use Rattle.service.specs.declared.fields.Occurrence.TheVariants as field
 use Rattle.service.specs.declared.head.Head.{Head}
 use Rattle.service.specs.declared.refusal.Refusal.{Refusal}
 use Rattle.service.specs.declared.refusal.Refusal.TheVariants as refusal
+use Rattle.service.specs.declared.routes.Action.{Action}
 use Rattle.service.specs.declared.wanted.Wanted.{Wanted}
 
 abbrev pub occurrence_view : Occurrence → Stated
@@ -73,8 +86,15 @@ abbrev pub status_kept : Bool → ℕ
 status_kept true = 201
 status_kept false = 200
 
-abbrev pub kept_answer : Deposited → AnswerValue
-kept_answer deposited = success (status_kept deposited.is_new) media.Text (decimal deposited.number ++ line_feed)
+-- a deposit's number, or why it isn't taken
+abbrev pub kept_answer : Result Deposited Fault → AnswerValue
+kept_answer (Ok deposited) = success (status_kept deposited.is_new) media.Text (decimal deposited.number ++ line_feed)
+kept_answer (Err fault) = refusal_answer (refusal_of fault)
+
+-- the answer that shows octets, or why they aren't shown
+abbrev pub shown_answer : Media → Result (Vec ℕ Global) Fault → AnswerValue
+shown_answer m (Ok octets) = success 200 m octets.items
+shown_answer m (Err fault) = refusal_answer (refusal_of fault)
 
 -- the answer where a right is given or taken, or the desk refuses it
 abbrev pub done_answer : Result (Unit {0}) Fault → AnswerValue
@@ -92,3 +112,25 @@ added_answer (Err store.Backwards) = refusal_answer refusal.Backwards
 
 abbrev pub request_view : Context → RequestValue
 request_view c = record { reading = c.at.reading; head = head_view c.head; body = c.body.now }
+
+abbrev pub seen_at : Context → ℕ → Seen
+seen_at c faults = record { reading = c.at.reading; faults = faults; octets = c.octets }
+
+-- what a whole request asks for
+abbrev pub asked_view : RequestValue → Found → Asked
+asked_view r (found.Stamp asked) = Step (stamp_for (question_view asked))
+asked_view r (found.Keep account reference) = Step (Deposit (account_view account.now) r.reading reference.now r.body)
+asked_view r (found.List account) = Step (ListAll (account_view account.now))
+asked_view r (found.Deposit what account number) =
+    asked_of_deposit (account_view account.now) number (parameter (codes "name") r.head.target) what
+asked_view r (found.Extract account from to) = Look (Extract (account_view account.now) from to)
+asked_view r (found.Calibrate calibration) = Step (Calibrate (calibration_view calibration))
+asked_view r (found.Hold hold) = Step (Hold (hold_view hold))
+asked_view r found.Status = Look Status
+asked_view r (found.Account account) = Look (OfAccount (account_view account.now))
+
+-- the checks of a whole request for that action find this
+abbrev pub IsAskedBy : Policy → Context → Action → Result Found Refusal → Type 0
+IsAskedBy policy c action result =
+    result_by (asked_view (request_view c)) result
+    ≡ asked_by (policy_view policy) c.at.reading (head_view c.head) c.body.now action

@@ -1,5 +1,5 @@
 //! What an account may ask for, and what it has used of that.
-ghost use Rattle.std.specs.Prelude.{◌≡◌, ◌++◌, codes, map, IfOk, IfSome, OnSome, string_bytes};
+ghost use Rattle.std.specs.Prelude.{◌≡◌, ◌++◌, ℕ, codes, map, IfOk, IfSome, OnSome, string_bytes};
 ghost use Rattle.std.specs.List.{flat_map};
 ghost use Rattle.der.specs.ObjectIdentifier.{oid_text};
 ghost use Rattle.policy.specs.Kinds.{is_among};
@@ -10,22 +10,23 @@ ghost use Rattle.desk.specs.Facts.{clock_of};
 ghost use Rattle.service.specs.Accounts.{identified, listed_line, algorithm_line, extension_line, policy_lines};
 ghost use Rattle.service.specs.Accounts.{named_policy_lines, quota_lines, right_lines, group_line, account_text};
 ghost use Rattle.service.specs.Accounts.{IsUsedAt};
-ghost use Rattle.service.specs.Answers.{AnswerValue};
-ghost use Rattle.service.specs.Reports.{ReportsText, IsAccountText};
-ghost use Rattle.service.specs.Served.{Sends};
+ghost use Rattle.service.specs.Handlers.{AnswersReport};
+ghost use Rattle.service.specs.Requests.{OfAccount};
+ghost use Rattle.service.specs.Served.{TellsFailure};
+ghost use Rattle.service.specs.Views.{seen_at};
 
 use crate::answer::Media;
 use crate::context::Context;
 use crate::responses::{out_of_memory, succeed};
 use crate::served::Served;
 use crate::status::{append_named, append_number, yes_or_no};
+use audit::Output;
 use book::{Book, StoreFault};
 use decide::{ClockState, clock_state};
 use der::Oid;
 use desk::Desk;
 use policy::{Account, Algorithm, Extension, Policy, TsaPolicy};
 use std::alloc::{AllocError, Global};
-use std::io::Write;
 
 /// A name, and an object identifier behind it.
 fn name_and_oid(alloc: Global, name: &str, oid: &str) -> Result<String, AllocError>
@@ -215,7 +216,7 @@ fn used_at<B: Book + Drop>(
 }
 
 /// Tells an account of itself.
-pub(crate) fn serve_account<W: Write, B: Book + Drop>(
+pub(crate) fn serve_account<W: Output, B: Book + Drop>(
     context: &Context<'_>,
     writer: &mut W,
     desk: &mut Desk<'_, B>,
@@ -223,9 +224,9 @@ pub(crate) fn serve_account<W: Write, B: Book + Drop>(
 ) -> Served
     ensures setting { desk.new.setting ≡ desk.old.setting }
     ensures looks { OnlyLooks B.Standing desk.old.store desk.new.store }
-    ensures served { (a : AnswerValue)
-        × ReportsText (IsAccountText B.Standing desk.old desk.new (account_view account.now) context.now.at.reading) a
-        × Sends W.contents context.now.at.reading writer.old writer.new a result }
+    ensures served { (faults : ℕ) → AnswersReport B.Standing W.contents (seen_at context.now faults) writer.old
+        writer.new desk.old desk.new (OfAccount (account_view account.now)) result }
+    ensures failed { TellsFailure (W.failures writer.old) (W.failures writer.new) result }
 {
     let Ok(used) = used_at(desk, account, context.at.reading) else {
         return out_of_memory(writer, context.at);

@@ -1,16 +1,16 @@
 //! The checks of a whole request.
-ghost use Rattle.std.specs.Prelude.{◌≡◌, IfOk};
-ghost use Rattle.book.specs.Values.{calibration_view, hold_view};
-ghost use Rattle.policy.specs.View.{account_view, policy_view};
+ghost use Rattle.std.specs.Prelude.{◌≡◌};
+ghost use Rattle.policy.specs.View.{policy_view};
 ghost use Rattle.decide.specs.View.{account_asked};
 ghost use Rattle.desk.specs.Batches.{stamp_for};
 ghost use Rattle.desk.specs.Together.{question_view};
 ghost use Rattle.service.specs.Checks.{account_shown, active, active_account, number_stated, range_stated};
 ghost use Rattle.service.specs.Checks.{reference_stated, operator_shown, watcher_shown};
-ghost use Rattle.service.specs.Requests.{account_and_reference, account_and_number, account_and_range};
-ghost use Rattle.service.specs.Requests.{Step, asked_by, calibration_asked, hold_asked};
+ghost use Rattle.service.specs.Requests.{Step, asked_by};
 ghost use Rattle.service.specs.Views.{head_view, IsInPlace, octets_given, result_by, account_given, account_found};
-ghost use Rattle.service.specs.declared.routes.Action.TheVariants.{Stamp};
+ghost use Rattle.service.specs.Views.{IsAskedBy};
+ghost use Rattle.service.specs.declared.routes.Action.TheVariants.{Stamp, Keep, List, Deposit, Extract, Calibrate};
+ghost use Rattle.service.specs.declared.routes.Action.TheVariants.{Hold as Holding, Status, Account as OfAccount};
 
 use crate::answer::Occasion;
 use crate::context::Context;
@@ -19,9 +19,8 @@ use crate::form::{calibration_stated, hold_stated};
 use crate::head::Head;
 use crate::numbers::{is_reference, number_in};
 use crate::refusal::Refusal;
-use crate::routes::Routes;
+use crate::routes::{Action, DepositAction, Routes};
 use crate::wanted::once;
-use audit::Inquiry;
 use book::{Calibration, Hold};
 use desk::Asked;
 use policy::{Account, Policy};
@@ -87,7 +86,7 @@ fn active(account: Option<&Account>) -> Result<&Account, Refusal>
 }
 
 /// The active account whose key is shown, or the anonymous one.
-pub(crate) fn active_account<'a>(policy: &'a Policy, head: Head<'_>) -> Result<&'a Account, Refusal>
+fn active_account<'a>(policy: &'a Policy, head: Head<'_>) -> Result<&'a Account, Refusal>
     requires { IsInPlace head }
     ensures { account_given result ≡ active_account (policy_view policy.now) (head_view head.entry) }
 {
@@ -108,7 +107,7 @@ fn operator_shown<'a>(policy: &'a Policy, head: Head<'_>) -> Result<&'a Account,
 }
 
 /// The active account whose key is shown, or the anonymous one, where it is an operator's or an auditor's.
-pub(crate) fn watcher_shown<'a>(policy: &'a Policy, head: Head<'_>) -> Result<&'a Account, Refusal>
+fn watcher_shown<'a>(policy: &'a Policy, head: Head<'_>) -> Result<&'a Account, Refusal>
     requires { IsInPlace head }
     ensures { account_given result ≡ watcher_shown (policy_view policy.now) (head_view head.entry) }
 {
@@ -133,73 +132,128 @@ fn reference_stated<'b>(head: Head<'b>) -> Result<&'b str, Refusal>
     str::from_utf8(reference).map_err(|_| Refusal::BadReference)
 }
 
-/// An active account, and the reference of its deposit.
-pub(crate) fn account_and_reference<'a>(
-    policy: &'a Policy,
-    head: Head<'a>,
-) -> Result<(&'a Account, &'a str), Refusal>
-    requires { IsInPlace head }
-    ensures { result_by (λ p. (account_view p.0.now, p.1.now)) result
-        ≡ account_and_reference (policy_view policy.now) (head_view head.entry) }
-{
-    let account = active_account(policy, head)?;
-    let reference = reference_stated(head)?;
-    Ok((account, reference))
+/// What the checks of a whole request find.
+#[derive(Clone, Copy)]
+pub(crate) enum Found<'a> {
+    /// Who asks for a stamp, when and by which octets.
+    Stamp(Asked<'a>),
+    /// An account, and under which reference it deposits the body.
+    Keep(&'a Account, &'a str),
+    /// An account that asks for its list.
+    List(&'a Account),
+    /// An account that asks for that, of the deposit with a number.
+    Deposit(DepositAction, &'a Account, u64),
+    /// An account that asks for the stamps from one serial number on and up to another.
+    Extract(&'a Account, u64, u64),
+    /// A calibration of an operator's.
+    Calibrate(Calibration),
+    /// A hold of an operator's.
+    Hold(Hold),
+    /// An operator or an auditor asks for the counter's state.
+    Status,
+    /// An account that asks for what it may ask for and has used.
+    Account(&'a Account),
 }
 
-/// An active account, and the target's number.
-pub(crate) fn account_and_number<'a>(
+fn stamp<'a>(policy: &'a Policy, context: &Context<'a>) -> Result<Found<'a>, Refusal>
+    requires { IsInPlace context.now.head }
+    ensures { IsAskedBy policy.now context.now Stamp result }
+{
+    let asked = stamp_asked(policy, context.at, context.head, context.body)?;
+    Ok(Found::Stamp(asked))
+}
+
+fn keep<'a>(policy: &'a Policy, context: &Context<'a>) -> Result<Found<'a>, Refusal>
+    requires { IsInPlace context.now.head }
+    ensures { IsAskedBy policy.now context.now Keep result }
+{
+    let account = active_account(policy, context.head)?;
+    let reference = reference_stated(context.head)?;
+    Ok(Found::Keep(account, reference))
+}
+
+fn list<'a>(policy: &'a Policy, context: &Context<'_>) -> Result<Found<'a>, Refusal>
+    requires { IsInPlace context.now.head }
+    ensures { IsAskedBy policy.now context.now List result }
+{
+    let account = active_account(policy, context.head)?;
+    Ok(Found::List(account))
+}
+
+fn deposit<'a>(
+    what: DepositAction,
     policy: &'a Policy,
     context: &Context<'_>,
-) -> Result<(&'a Account, u64), Refusal>
+) -> Result<Found<'a>, Refusal>
     requires { IsInPlace context.now.head }
-    ensures { result_by (λ p. (account_view p.0.now, p.1)) result
-        ≡ account_and_number (policy_view policy.now) (head_view context.now.head) }
+    ensures { IsAskedBy policy.now context.now (Deposit what) result }
 {
     let account = active_account(policy, context.head)?;
     let number = number_stated(context.routes, context.head)?;
-    Ok((account, number))
+    Ok(Found::Deposit(what, account, number))
 }
 
-/// An active account's inquiry into the stamps between the target's two serial numbers.
-pub(crate) fn account_and_range<'a>(
-    policy: &'a Policy,
-    context: &Context<'_>,
-) -> Result<Inquiry<'a>, Refusal>
+fn extract<'a>(policy: &'a Policy, context: &Context<'_>) -> Result<Found<'a>, Refusal>
     requires { IsInPlace context.now.head }
-    ensures value { result_by (λ i. (account_view i.account.now, i.from, i.to)) result
-        ≡ account_and_range (policy_view policy.now) (head_view context.now.head) }
-    ensures policy { IfOk result (λ i. i.policy.now ≡ policy.now) }
+    ensures { IsAskedBy policy.now context.now Extract result }
 {
     let account = active_account(policy, context.head)?;
     let (from, to) = range_stated(context.routes, context.head)?;
-    Ok(Inquiry {
-        policy,
-        account,
-        from,
-        to,
-    })
+    Ok(Found::Extract(account, from, to))
 }
 
-/// The calibration that an operator's form states.
-pub(crate) fn calibration_asked(
-    policy: &Policy,
-    head: Head<'_>,
-    form: &[u8],
-) -> Result<Calibration, Refusal>
-    requires { IsInPlace head }
-    ensures { result_by calibration_view result
-        ≡ calibration_asked (policy_view policy.now) (head_view head.entry) form.now }
+fn calibrate<'a>(policy: &Policy, context: &Context<'_>) -> Result<Found<'a>, Refusal>
+    requires { IsInPlace context.now.head }
+    ensures { IsAskedBy policy.now context.now Calibrate result }
 {
-    operator_shown(policy, head)?;
-    calibration_stated(form)
+    operator_shown(policy, context.head)?;
+    let calibration = calibration_stated(context.body)?;
+    Ok(Found::Calibrate(calibration))
 }
 
-/// The hold that an operator's form states.
-pub(crate) fn hold_asked(policy: &Policy, head: Head<'_>, form: &[u8]) -> Result<Hold, Refusal>
-    requires { IsInPlace head }
-    ensures { result_by hold_view result ≡ hold_asked (policy_view policy.now) (head_view head.entry) form.now }
+fn hold<'a>(policy: &Policy, context: &Context<'_>) -> Result<Found<'a>, Refusal>
+    requires { IsInPlace context.now.head }
+    ensures { IsAskedBy policy.now context.now Holding result }
 {
-    operator_shown(policy, head)?;
-    hold_stated(form)
+    operator_shown(policy, context.head)?;
+    let hold = hold_stated(context.body)?;
+    Ok(Found::Hold(hold))
+}
+
+fn status<'a>(policy: &Policy, context: &Context<'_>) -> Result<Found<'a>, Refusal>
+    requires { IsInPlace context.now.head }
+    ensures { IsAskedBy policy.now context.now Status result }
+{
+    watcher_shown(policy, context.head)?;
+    Ok(Found::Status)
+}
+
+fn account<'a>(policy: &'a Policy, context: &Context<'_>) -> Result<Found<'a>, Refusal>
+    requires { IsInPlace context.now.head }
+    ensures { IsAskedBy policy.now context.now OfAccount result }
+{
+    let account = active_account(policy, context.head)?;
+    Ok(Found::Account(account))
+}
+
+/// Makes the checks of a whole request, up to the first that fails.
+pub(crate) fn found_by<'a>(
+    action: Action,
+    policy: &'a Policy,
+    context: &Context<'a>,
+) -> Result<Found<'a>, Refusal>
+    requires { IsInPlace context.now.head }
+    ensures { IsAskedBy policy.now context.now action result }
+{
+    match action {
+        Action::Stamp => stamp(policy, context),
+        Action::Keep => keep(policy, context),
+        Action::List => list(policy, context),
+        Action::Deposit(what) => deposit(what, policy, context),
+        Action::Extract => extract(policy, context),
+        Action::Calibrate => calibrate(policy, context),
+        Action::Hold => hold(policy, context),
+        Action::Status => status(policy, context),
+        Action::Account => account(policy, context),
+    }
 }

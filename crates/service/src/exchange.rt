@@ -1,5 +1,5 @@
 //! A request and its answer.
-ghost use Rattle.std.specs.Prelude.{◌≡◌, length, take, List, Option, ℕ, true, MatchOption};
+ghost use Rattle.std.specs.Prelude.{◌≡◌, ◌⊎◌, length, take, List, Option, ℕ, true, MatchOption};
 ghost use Rattle.std.specs.Io.KnownBytes.{Consumes, IsAtEnd};
 ghost use Rattle.policy.specs.View.{policy_view};
 ghost use Rattle.desk.specs.Answers.{reply_as};
@@ -8,8 +8,8 @@ ghost use Rattle.desk.specs.Together.{question_view};
 ghost use Rattle.service.specs.Answers.{answer_to};
 ghost use Rattle.service.specs.Known.{IsDue, IsDueAtEnd, IsDueInPlace};
 ghost use Rattle.service.specs.Received.{ReceivedValue, IsAll};
-ghost use Rattle.service.specs.Served.{Sends, Serves, TellsCut};
-ghost use Rattle.service.specs.Stamps.{AsksStamp};
+ghost use Rattle.service.specs.Served.{Sends, Serves, TellsCut, TellsFailure};
+ghost use Rattle.service.specs.Stamps.{AsksRows, AsksStamp, ReadsRows};
 ghost use Rattle.service.specs.Views.{stamp_answer};
 
 use crate::answer::Occasion;
@@ -21,12 +21,13 @@ use crate::request::Request;
 use crate::responses::{out_of_memory, refuse, write_reply};
 use crate::routes::Routes;
 use crate::served::Served;
+use audit::Output;
 use book::Book;
 use cms::Signer;
 use desk::{Asked, Desk, Reply};
 use policy::Policy;
 use std::alloc::Global;
-use std::io::{Read, Write};
+use std::io::Read;
 
 /// What became of a request, by the octets that came of it.
 #[derive(Clone, Copy)]
@@ -38,7 +39,7 @@ pub struct Exchanged {
 }
 
 /// Gives a request what is due to it.
-fn give<W: Write, B: Book + Drop, G: Signer>(
+fn give<W: Output, B: Book + Drop, G: Signer>(
     environment: Environment<'_>,
     due: Due<'_>,
     desk: &mut Desk<'_, B>,
@@ -62,6 +63,9 @@ fn give<W: Write, B: Book + Drop, G: Signer>(
           signer_after = signer.new;
         }) result }
     ensures cut { IsDueAtEnd due.entry → TellsCut result }
+    ensures failed { TellsFailure (W.failures writer.old) (W.failures writer.new) result
+        ⊎ ((r : ReceivedValue) → IsDue r due.entry
+        → AsksRows desk.old.setting.file environment.entry.reading r) }
 {
     let at = Occasion {
         reading: environment.reading,
@@ -86,7 +90,7 @@ fn give<W: Write, B: Book + Drop, G: Signer>(
 impl Request {
     /// Answers it by the octets that came, of which those behind it aren't looked at. One to which octets are wanting
     /// is refused: by status 400 where the input ended, and else, as there is no memory for them, by 503.
-    pub fn serve<W: Write, B: Book + Drop, G: Signer>(
+    pub fn serve<W: Output, B: Book + Drop, G: Signer>(
         &self,
         environment: Environment<'_>,
         desk: &mut Desk<'_, B>,
@@ -109,6 +113,10 @@ impl Request {
             }) result.served }
         ensures all { result.is_all ≡ true → IsAll self.now.octets }
         ensures cut { self.now.is_wanting ≡ true → self.now.is_ended ≡ true → TellsCut result.served }
+
+        // A list and an extract may be given up where no write failed.
+        ensures failed { TellsFailure (W.failures writer.old) (W.failures writer.new) result.served
+            ⊎ AsksRows desk.old.setting.file environment.entry.reading self.now }
     {
         Exchanged {
             served: give(environment, self.due(), desk, signer, writer),
@@ -133,8 +141,9 @@ impl Request {
     }
 
     /// Writes the reply to the stamp that it asks for, given at that reading.
-    pub fn write_stamped<W: Write>(&self, reading: i64, reply: &Reply, writer: &mut W) -> Exchanged
+    pub fn write_stamped<W: Output>(&self, reading: i64, reply: &Reply, writer: &mut W) -> Exchanged
         ensures sent { Sends W.contents reading writer.old writer.new (stamp_answer reply.now) result.served }
+        ensures failed { TellsFailure (W.failures writer.old) (W.failures writer.new) result.served }
         ensures tells { (asked : Question) → stamp_answer reply.now ≡ answer_to (stamp_for asked) (reply_as reply.now) }
         ensures all { result.is_all ≡ true → IsAll self.now.octets }
     {
@@ -153,7 +162,7 @@ impl Request {
 /// desk that wants memory, or whose store or signer fails, is told by the reply's rule 12 on `/tsp`, and by 503
 /// elsewhere. An auditor's extract is written row by row, and no row is kept: it is `WriteFailed` too where the store
 /// or memory fails once the answer is begun.
-pub fn serve_over<R: Read, W: Write, B: Book + Drop, G: Signer>(
+pub fn serve_over<R: Read, W: Output, B: Book + Drop, G: Signer>(
     surroundings: Surroundings,
     reader: &mut R,
     writer: &mut W,
@@ -162,6 +171,8 @@ pub fn serve_over<R: Read, W: Write, B: Book + Drop, G: Signer>(
 ) -> Served
     ensures setting { desk.new.setting ≡ desk.old.setting }
     ensures honest { B.honest desk.new.store → B.honest desk.old.store }
+    ensures failed { TellsFailure (W.failures writer.old) (W.failures writer.new) result
+        ⊎ ReadsRows desk.old.setting.file surroundings.reading (R.remaining reader.old) (R.remaining reader.new) }
     ensures served { Serves B.Standing G.signs G.fault_count W.contents surroundings.reading (record {
       input = R.remaining reader.old;
       input_after = R.remaining reader.new;
@@ -198,7 +209,7 @@ pub fn serve_over<R: Read, W: Write, B: Book + Drop, G: Signer>(
 
 /// Serves one request as `serve_over` does, of a database whose octets aren't known. The reading is the clock's, in
 /// microseconds.
-pub fn serve_one<R: Read, W: Write, B: Book + Drop, G: Signer>(
+pub fn serve_one<R: Read, W: Output, B: Book + Drop, G: Signer>(
     alloc: Global,
     reader: &mut R,
     writer: &mut W,
@@ -208,6 +219,8 @@ pub fn serve_one<R: Read, W: Write, B: Book + Drop, G: Signer>(
 ) -> Served
     ensures setting { desk.new.setting ≡ desk.old.setting }
     ensures honest { B.honest desk.new.store → B.honest desk.old.store }
+    ensures failed { TellsFailure (W.failures writer.old) (W.failures writer.new) result
+        ⊎ ReadsRows desk.old.setting.file reading (R.remaining reader.old) (R.remaining reader.new) }
     ensures served { Serves B.Standing G.signs G.fault_count W.contents reading (record {
       input = R.remaining reader.old;
       input_after = R.remaining reader.new;

@@ -1,5 +1,5 @@
 //! Who may read a deposit, for its owner.
-ghost use Rattle.std.specs.Prelude.{◌≡◌, ◌++◌, true, map, option_map, IfOk, IfSome, OnSome, string_bytes};
+ghost use Rattle.std.specs.Prelude.{◌≡◌, ◌++◌, ℕ, true, map, option_map, IfOk, IfSome, OnSome, string_bytes};
 ghost use Rattle.std.specs.List.{flat_map};
 ghost use Rattle.policy.specs.View.{account_view, policy_view};
 ghost use Rattle.book.specs.Entries.{reader_view};
@@ -7,10 +7,11 @@ ghost use Rattle.book.specs.History.{History};
 ghost use Rattle.book.specs.Readers.{Account as Named, Group as NamedGroup};
 ghost use Rattle.book.specs.Stands.{Stands, OnlyLooks};
 ghost use Rattle.book.specs.Values.{deposit_view};
-ghost use Rattle.service.specs.Answers.{AnswerValue};
 ghost use Rattle.service.specs.Readers.{is_owned, is_own, has_right, reader_named, reader_line, readers_text};
-ghost use Rattle.service.specs.Reports.{ReportsReaders};
-ghost use Rattle.service.specs.Served.{Sends};
+ghost use Rattle.service.specs.Handlers.{AnswersReport};
+ghost use Rattle.service.specs.Requests.{OfReaders};
+ghost use Rattle.service.specs.Served.{TellsFailure};
+ghost use Rattle.service.specs.Views.{seen_at};
 
 use crate::answer::Media;
 use crate::context::Context;
@@ -18,11 +19,11 @@ use crate::refusal::Refusal;
 use crate::responses::{out_of_memory, refuse, succeed};
 use crate::served::Served;
 use crate::status::append_named;
+use audit::Output;
 use book::{Book, Reader, StampedDeposit, StoreFault};
 use desk::Desk;
 use policy::{Account, Group, Policy};
 use std::alloc::Global;
-use std::io::Write;
 
 /// Whether a deposit was found, and is the account's.
 fn is_owned(found: Option<StampedDeposit>, account: &str) -> bool
@@ -191,7 +192,7 @@ fn readers_text<B: Book + Drop>(
 }
 
 /// Tells the owner of a deposit who may read it.
-pub(crate) fn serve_readers<W: Write, B: Book + Drop>(
+pub(crate) fn serve_readers<W: Output, B: Book + Drop>(
     context: &Context<'_>,
     writer: &mut W,
     desk: &mut Desk<'_, B>,
@@ -200,8 +201,9 @@ pub(crate) fn serve_readers<W: Write, B: Book + Drop>(
 ) -> Served
     ensures setting { desk.new.setting ≡ desk.old.setting }
     ensures looks { OnlyLooks B.Standing desk.old.store desk.new.store }
-    ensures served { (a : AnswerValue) × ReportsReaders B.Standing desk.old desk.new (account_view account.now) number a
-        × Sends W.contents context.now.at.reading writer.old writer.new a result }
+    ensures served { (faults : ℕ) → AnswersReport B.Standing W.contents (seen_at context.now faults) writer.old
+        writer.new desk.old desk.new (OfReaders (account_view account.now) number) result }
+    ensures failed { TellsFailure (W.failures writer.old) (W.failures writer.new) result }
 {
     let file = desk.policy();
     let owner = account.name.as_str();

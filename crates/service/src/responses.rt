@@ -1,25 +1,26 @@
 //! Answers that are written.
 ghost use Rattle.std.specs.Prelude.{◌≡◌, ◌≤◌, ◌++◌, length, Option, option_map};
 ghost use Rattle.http.specs.StatusCode.{reason_phrase};
-ghost use Rattle.service.specs.Answers.{created, phrase_of, refusal_answer, success};
+ghost use Rattle.service.specs.Answers.{created, phrase_of, refusal_answer, success, unavailable};
 ghost use Rattle.service.specs.Routes.{names_of};
-ghost use Rattle.service.specs.Served.{SendsText, Sends, unavailable};
-ghost use Rattle.service.specs.Views.{stamp_answer, status_kept, kept_answer, done_answer, added_answer};
+ghost use Rattle.service.specs.Served.{SendsText, Sends, TellsFailure};
+ghost use Rattle.service.specs.Views.{stamp_answer, status_kept, kept_answer, shown_answer, done_answer, added_answer};
 
 use crate::answer::{Heading, Media, Occasion, head_text};
 use crate::lists::number_line;
 use crate::refusal::Refusal;
 use crate::served::Served;
 use crate::writes::write_both;
+use audit::Output;
 use book::StoreFault;
 use desk::{Deposited, Fault, Reply};
 use http::StatusCode;
-use std::io::Write;
 
 /// Writes an answer's head and its body.
-fn write_answer<W: Write>(writer: &mut W, status: StatusCode, head: &[u8], body: &[u8]) -> Served
+fn write_answer<W: Output>(writer: &mut W, status: StatusCode, head: &[u8], body: &[u8]) -> Served
     requires { length head.now ≤ 512 }
-    ensures { SendsText W.contents writer.old writer.new status (head.now ++ body.now) result }
+    ensures sent { SendsText W.contents writer.old writer.new status (head.now ++ body.now) result }
+    ensures failed { TellsFailure (W.failures writer.old) (W.failures writer.new) result }
 {
     let status = status.as_u16();
     let sent = write_both(writer, head, body);
@@ -30,14 +31,15 @@ fn write_answer<W: Write>(writer: &mut W, status: StatusCode, head: &[u8], body:
 }
 
 /// Writes an answer. It takes no memory.
-fn send<W: Write>(writer: &mut W, heading: Heading, body: &[u8]) -> Served
+fn send<W: Output>(writer: &mut W, heading: Heading, body: &[u8]) -> Served
     requires { length (phrase_of (reason_phrase heading.status)) ≤ 40 }
-    ensures { Sends W.contents heading.at.reading writer.old writer.new (record {
+    ensures sent { Sends W.contents heading.at.reading writer.old writer.new (record {
       status = heading.status;
       media = heading.media;
       allow = option_map names_of heading.allow;
       body = body.now;
     }) result }
+    ensures failed { TellsFailure (W.failures writer.old) (W.failures writer.new) result }
 {
     let status = heading.status;
     let head = head_text(heading, body.len());
@@ -45,7 +47,7 @@ fn send<W: Write>(writer: &mut W, heading: Heading, body: &[u8]) -> Served
 }
 
 /// Writes an answer of a status that tells success.
-fn tell<W: Write>(
+fn tell<W: Output>(
     writer: &mut W,
     at: Occasion,
     status: StatusCode,
@@ -53,7 +55,8 @@ fn tell<W: Write>(
     body: &[u8],
 ) -> Served
     requires { length (phrase_of (reason_phrase status)) ≤ 40 }
-    ensures { Sends W.contents at.reading writer.old writer.new (success status media body.now) result }
+    ensures sent { Sends W.contents at.reading writer.old writer.new (success status media body.now) result }
+    ensures failed { TellsFailure (W.failures writer.old) (W.failures writer.new) result }
 {
     let heading = Heading {
         at,
@@ -65,8 +68,9 @@ fn tell<W: Write>(
 }
 
 /// Writes the answer that tells a refusal.
-pub(crate) fn refuse<W: Write>(writer: &mut W, at: Occasion, refusal: Refusal) -> Served
-    ensures { Sends W.contents at.reading writer.old writer.new (refusal_answer refusal) result }
+pub(crate) fn refuse<W: Output>(writer: &mut W, at: Occasion, refusal: Refusal) -> Served
+    ensures sent { Sends W.contents at.reading writer.old writer.new (refusal_answer refusal) result }
+    ensures failed { TellsFailure (W.failures writer.old) (W.failures writer.new) result }
 {
     let heading = Heading {
         at,
@@ -79,22 +83,25 @@ pub(crate) fn refuse<W: Write>(writer: &mut W, at: Occasion, refusal: Refusal) -
 }
 
 /// Writes the answer that the counter can't answer now.
-pub(crate) fn out_of_memory<W: Write>(writer: &mut W, at: Occasion) -> Served
-    ensures { Sends W.contents at.reading writer.old writer.new unavailable result }
+pub(crate) fn out_of_memory<W: Output>(writer: &mut W, at: Occasion) -> Served
+    ensures sent { Sends W.contents at.reading writer.old writer.new unavailable result }
+    ensures failed { TellsFailure (W.failures writer.old) (W.failures writer.new) result }
 {
     refuse(writer, at, Refusal::Unavailable)
 }
 
 /// Writes an answer of status 200.
-pub(crate) fn succeed<W: Write>(writer: &mut W, at: Occasion, media: Media, body: &[u8]) -> Served
-    ensures { Sends W.contents at.reading writer.old writer.new (success 200 media body.now) result }
+pub(crate) fn succeed<W: Output>(writer: &mut W, at: Occasion, media: Media, body: &[u8]) -> Served
+    ensures sent { Sends W.contents at.reading writer.old writer.new (success 200 media body.now) result }
+    ensures failed { TellsFailure (W.failures writer.old) (W.failures writer.new) result }
 {
     tell(writer, at, StatusCode::OK, media, body)
 }
 
 /// Writes the reply to a time-stamp request.
-pub(crate) fn write_reply<W: Write>(writer: &mut W, at: Occasion, reply: &Reply) -> Served
-    ensures { Sends W.contents at.reading writer.old writer.new (stamp_answer reply.now) result }
+pub(crate) fn write_reply<W: Output>(writer: &mut W, at: Occasion, reply: &Reply) -> Served
+    ensures sent { Sends W.contents at.reading writer.old writer.new (stamp_answer reply.now) result }
+    ensures failed { TellsFailure (W.failures writer.old) (W.failures writer.new) result }
 {
     match reply {
         Reply::Granted { serial: _, bytes } => succeed(writer, at, Media::Reply, bytes),
@@ -114,26 +121,49 @@ fn status_kept(is_new: bool) -> StatusCode
     }
 }
 
-/// Writes the answer to a deposit: its number.
-pub(crate) fn write_deposited<W: Write>(
+/// Writes the answer to a deposit: its number, or why it isn't taken.
+pub(crate) fn write_deposited<W: Output>(
     writer: &mut W,
     at: Occasion,
-    deposited: Deposited,
+    outcome: Result<Deposited, Fault>,
 ) -> Served
-    ensures { Sends W.contents at.reading writer.old writer.new (kept_answer deposited) result }
+    ensures sent { Sends W.contents at.reading writer.old writer.new (kept_answer outcome) result }
+    ensures failed { TellsFailure (W.failures writer.old) (W.failures writer.new) result }
 {
-    let line = number_line(deposited.number);
-    let status = status_kept(deposited.is_new);
-    tell(writer, at, status, Media::Text, line.as_str().as_bytes())
+    match outcome {
+        Ok(deposited) => {
+            let line = number_line(deposited.number);
+            let status = status_kept(deposited.is_new);
+            tell(writer, at, status, Media::Text, line.as_str().as_bytes())
+        }
+        Err(fault) => refuse(writer, at, Refusal::from(fault)),
+    }
+}
+
+/// Writes the answer that shows octets, or why they aren't shown.
+pub(crate) fn write_shown<W: Output>(
+    writer: &mut W,
+    at: Occasion,
+    media: Media,
+    shown: Result<Vec<u8>, Fault>,
+) -> Served
+    ensures sent { Sends W.contents at.reading writer.old writer.new (shown_answer media shown) result }
+    ensures failed { TellsFailure (W.failures writer.old) (W.failures writer.new) result }
+{
+    match shown {
+        Ok(octets) => succeed(writer, at, media, &octets),
+        Err(fault) => refuse(writer, at, Refusal::from(fault)),
+    }
 }
 
 /// Writes the answer where a right is given or taken, or why it isn't.
-pub(crate) fn write_done<W: Write>(
+pub(crate) fn write_done<W: Output>(
     writer: &mut W,
     at: Occasion,
     outcome: Result<(), Fault>,
 ) -> Served
-    ensures { Sends W.contents at.reading writer.old writer.new (done_answer outcome) result }
+    ensures sent { Sends W.contents at.reading writer.old writer.new (done_answer outcome) result }
+    ensures failed { TellsFailure (W.failures writer.old) (W.failures writer.new) result }
 {
     match outcome {
         Ok(()) => succeed(writer, at, Media::Text, b""),
@@ -142,8 +172,9 @@ pub(crate) fn write_done<W: Write>(
 }
 
 /// Writes the answer that something is created under a number.
-fn create<W: Write>(writer: &mut W, at: Occasion, number: u64) -> Served
-    ensures { Sends W.contents at.reading writer.old writer.new (created number) result }
+fn create<W: Output>(writer: &mut W, at: Occasion, number: u64) -> Served
+    ensures sent { Sends W.contents at.reading writer.old writer.new (created number) result }
+    ensures failed { TellsFailure (W.failures writer.old) (W.failures writer.new) result }
 {
     let line = number_line(number);
     let octets = line.as_str().as_bytes();
@@ -151,12 +182,13 @@ fn create<W: Write>(writer: &mut W, at: Occasion, number: u64) -> Served
 }
 
 /// Writes the answer where a calibration or a hold is added: its number, or why it isn't.
-pub(crate) fn write_added<W: Write>(
+pub(crate) fn write_added<W: Output>(
     writer: &mut W,
     at: Occasion,
     outcome: Result<u64, StoreFault>,
 ) -> Served
-    ensures { Sends W.contents at.reading writer.old writer.new (added_answer outcome) result }
+    ensures sent { Sends W.contents at.reading writer.old writer.new (added_answer outcome) result }
+    ensures failed { TellsFailure (W.failures writer.old) (W.failures writer.new) result }
 {
     match outcome {
         Ok(number) => create(writer, at, number),

@@ -6,6 +6,25 @@ ghost use Rattle.service.specs.Routes.{line_view, table, with_route, routes, met
 use matchit::{InsertError, Router};
 use std::alloc::{AllocError, Global};
 
+/// What a method does with the deposit of a number.
+#[derive(Clone, Copy)]
+pub(crate) enum DepositAction {
+    /// Shows it.
+    Show,
+    /// Shows its token.
+    Token,
+    /// Tells its owner who may read it.
+    Readers,
+    /// Lets an account see it.
+    Grant,
+    /// Takes that right away.
+    Revoke,
+    /// Lets the members of a group see it.
+    GrantGroup,
+    /// Takes that right away.
+    RevokeGroup,
+}
+
 /// What a method does at a target.
 #[derive(Clone, Copy)]
 pub(crate) enum Action {
@@ -15,18 +34,8 @@ pub(crate) enum Action {
     Keep,
     /// Lists deposits.
     List,
-    /// Shows a deposit.
-    Show,
-    /// Shows a deposit's token.
-    Token,
-    /// Lets an account see a deposit.
-    Grant,
-    /// Takes that right away.
-    Revoke,
-    /// Lets the members of a group see a deposit.
-    GrantGroup,
-    /// Takes that right away.
-    RevokeGroup,
+    /// Does that with the deposit of the target's number.
+    Deposit(DepositAction),
     /// Writes stamps out for an auditor.
     Extract,
     /// Adds a calibration for an operator.
@@ -37,8 +46,6 @@ pub(crate) enum Action {
     Status,
     /// Tells an account of itself.
     Account,
-    /// Tells the owner of a deposit who may read it.
-    Readers,
 }
 
 /// What each method does at a target, if anything.
@@ -65,6 +72,13 @@ macro_rules! on {
     };
 }
 
+/// What these methods do with the deposit of a target's number; no other does anything.
+macro_rules! on_deposit {
+    ($($method:ident $action:ident),+) => {
+        Methods { $($method: Some(Action::Deposit(DepositAction::$action)),)+ ..NOTHING }
+    };
+}
+
 /// Each target's text, in which a name in braces stands for a segment that isn't empty, and what the methods do there.
 static ROUTES: &[(&str, Methods)] = &[
     ("/tsp", on!(post Stamp)),
@@ -73,16 +87,16 @@ static ROUTES: &[(&str, Methods)] = &[
     ("/status", on!(get Status)),
     ("/account", on!(get Account)),
     ("/deposits", on!(get List, post Keep)),
-    ("/deposits/{number}", on!(get Show)),
-    ("/deposits/{number}/token", on!(get Token)),
-    ("/deposits/{number}/readers", on!(get Readers)),
+    ("/deposits/{number}", on_deposit!(get Show)),
+    ("/deposits/{number}/token", on_deposit!(get Token)),
+    ("/deposits/{number}/readers", on_deposit!(get Readers)),
     (
         "/deposits/{number}/readers/{name}",
-        on!(put Grant, delete Revoke),
+        on_deposit!(put Grant, delete Revoke),
     ),
     (
         "/deposits/{number}/groups/{name}",
-        on!(put GrantGroup, delete RevokeGroup),
+        on_deposit!(put GrantGroup, delete RevokeGroup),
     ),
     ("/audit/{from}/{to}", on!(get Extract)),
 ];

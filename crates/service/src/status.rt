@@ -7,20 +7,23 @@ ghost use Rattle.policy.specs.View.{counter_view};
 ghost use Rattle.book.specs.Stands.{OnlyLooks};
 ghost use Rattle.service.specs.Status.{drifting, greatest_age, age, age_left, or_none, yes_or_no, named};
 ghost use Rattle.service.specs.Status.{calibration_lines, giving_lines, clock_lines, fault_lines, size_line, Gives};
-ghost use Rattle.service.specs.Status.{IsStateOver};
-ghost use Rattle.service.specs.StateAnswers.{ServesStatus};
+ghost use Rattle.service.specs.Status.{IsStatusText};
+ghost use Rattle.service.specs.Handlers.{AnswersReport};
+ghost use Rattle.service.specs.Requests.{Status};
+ghost use Rattle.service.specs.Served.{TellsFailure};
+ghost use Rattle.service.specs.Views.{seen_at};
 
 use crate::answer::Media;
 use crate::context::Context;
 use crate::responses::{out_of_memory, succeed};
 use crate::served::Served;
+use audit::Output;
 use book::Book;
 use decide::{Calibration, ClockFacts, ClockState, clock_state};
 use desk::{Desk, Looked};
 use gentime::GenTime;
 use policy::Counter;
 use std::alloc::{AllocError, Global};
-use std::io::Write;
 
 /// How often store and signer failed since the start.
 #[derive(Clone, Copy)]
@@ -235,7 +238,7 @@ fn status_text(
     faults: Faults,
     octets: Option<u64>,
 ) -> Option<Vec<u8>>
-    ensures { IfSome result (λ text. IsStateOver (counter_view counter.now) looked faults.store faults.signer octets
+    ensures { IfSome result (λ text. IsStatusText (counter_view counter.now) looked faults.store faults.signer octets
         text.items) }
 {
     let gives = gives(counter, &looked.clock);
@@ -256,7 +259,7 @@ fn store_faults<B: Book + Drop>(desk: &mut Desk<'_, B>) -> u64
 }
 
 /// Tells an operator or an auditor of the counter's state, where the signer has so many faults.
-pub(crate) fn serve_status<W: Write, B: Book + Drop>(
+pub(crate) fn serve_status<W: Output, B: Book + Drop>(
     context: &Context<'_>,
     writer: &mut W,
     desk: &mut Desk<'_, B>,
@@ -264,8 +267,9 @@ pub(crate) fn serve_status<W: Write, B: Book + Drop>(
 ) -> Served
     ensures setting { desk.new.setting ≡ desk.old.setting }
     ensures looks { OnlyLooks B.Standing desk.old.store desk.new.store }
-    ensures served { ServesStatus B.Standing W.contents context.now.at.reading writer.old writer.new desk.old.store
-        desk.new.store desk.old.setting.file.counter signer_faults context.now.octets result }
+    ensures served { AnswersReport B.Standing W.contents (seen_at context.now signer_faults) writer.old writer.new
+        desk.old desk.new Status result }
+    ensures failed { TellsFailure (W.failures writer.old) (W.failures writer.new) result }
 {
     let Ok(looked) = desk.look(context.at.reading) else {
         return out_of_memory(writer, context.at);

@@ -1,39 +1,68 @@
-//! `/deposits/{number}`: the octets of a deposit.
-ghost use Rattle.std.specs.Prelude.{◌≡◌};
+//! `/deposits/{number}`, and what is below it: the octets of a deposit, its token, and who may see it.
+ghost use Rattle.std.specs.Prelude.{◌≡◌, codes, Ok};
+ghost use Rattle.policy.specs.View.{account_view};
 ghost use Rattle.service.specs.Handlers.{Handles};
-ghost use Rattle.service.specs.Views.{request_view, IsInPlace};
-ghost use Rattle.service.specs.declared.routes.Action.TheVariants.{Show};
+ghost use Rattle.service.specs.Requests.{asked_of_deposit};
+ghost use Rattle.service.specs.Routes.{parameter};
+ghost use Rattle.service.specs.Served.{TellsFailure};
 
 use crate::answer::Media;
-use crate::checks::account_and_number;
 use crate::context::Context;
-use crate::refusal::Refusal;
-use crate::responses::{refuse, succeed};
+use crate::readers::serve_readers;
+use crate::responses::{write_done, write_shown};
+use crate::routes::DepositAction;
 use crate::served::Served;
+use audit::Output;
 use book::Book;
 use cms::Signer;
 use desk::Desk;
-use std::io::Write;
+use policy::Account;
 
-/// Shows a deposit.
-pub(crate) fn show<W: Write, B: Book + Drop, G: Signer>(
+/// Answers an account that asks for this, of the deposit with a number.
+pub(crate) fn answer<W: Output, B: Book + Drop, G: Signer>(
+    what: DepositAction,
     context: &Context<'_>,
     desk: &mut Desk<'_, B>,
     _signer: &mut G,
     writer: &mut W,
+    account: &Account,
+    number: u64,
 ) -> Served
-    requires { IsInPlace context.now.head }
     ensures setting { desk.new.setting ≡ desk.old.setting }
     ensures honest { B.honest desk.new.store → B.honest desk.old.store }
-    ensures served { Handles B.Standing G.signs G.fault_count W.contents (request_view context.now) Show
+    ensures served { Handles B.Standing G.signs G.fault_count W.contents context.now.at.reading
+        (Ok (asked_of_deposit (account_view account.now) number
+        (parameter (codes "name") context.now.head.target.now) what))
         writer.old writer.new desk.old desk.new _signer.old _signer.new result }
+    ensures failed { TellsFailure (W.failures writer.old) (W.failures writer.new) result }
 {
-    let (account, number) = match account_and_number(desk.policy(), context) {
-        Ok(asked) => asked,
-        Err(refusal) => return refuse(writer, context.at, refusal),
-    };
-    match desk.show(account, number) {
-        Ok(bytes) => succeed(writer, context.at, Media::Octets, &bytes),
-        Err(fault) => refuse(writer, context.at, Refusal::from(fault)),
+    let at = context.at;
+    let name = context.routes.parameter(context.head.target, "name");
+    match what {
+        DepositAction::Show => {
+            let shown = desk.show(account, number);
+            write_shown(writer, at, Media::Octets, shown)
+        }
+        DepositAction::Token => {
+            let shown = desk.token_of(account, number);
+            write_shown(writer, at, Media::Reply, shown)
+        }
+        DepositAction::Readers => serve_readers(context, writer, desk, account, number),
+        DepositAction::Grant => {
+            let outcome = desk.grant(account, number, name);
+            write_done(writer, at, outcome)
+        }
+        DepositAction::Revoke => {
+            let outcome = desk.revoke(account, number, name);
+            write_done(writer, at, outcome)
+        }
+        DepositAction::GrantGroup => {
+            let outcome = desk.grant_group(account, number, name);
+            write_done(writer, at, outcome)
+        }
+        DepositAction::RevokeGroup => {
+            let outcome = desk.revoke_group(account, number, name);
+            write_done(writer, at, outcome)
+        }
     }
 }

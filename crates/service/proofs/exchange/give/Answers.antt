@@ -1,7 +1,8 @@
-use Rattle.std.proofs.Common.{ℤ, SFits, refl, rules, subst, to_z-of_z, w64}
+use Rattle.std.proofs.Common.{ℤ, SFits, inl, inr, refl, rules, subst, to_z-of_z, w64}
 use Rattle.service.specs.Answers.{refusal_answer}
 use Rattle.service.specs.Handlers.{Handles}
 use Rattle.service.specs.Known.{IsDue}
+use Rattle.service.specs.Requests.{IsByRows, asked_by}
 use Rattle.service.specs.Served.{Sends}
 use Rattle.service.specs.Views.{head_view}
 use Rattle.service.specs.declared.due.Due.{Due}
@@ -26,7 +27,7 @@ returns-in-Refusal-clause-served g c = λ r is before after read ended.
     refusing_due g.B.Standing g.G.Signer.signs g.G.Signer.fault_count g.W.Write.contents reading
     (turn before after c.args.writer.now c.refuse.new.writer c.args.desk.now c.args.desk.now c.args.signer.now
     c.args.signer.now) r c.in-Refusal.refusal c.refuse.result (subst D c.in-Refusal.is is) read ended
-    (record { desk = refl; signer = refl }) (subst P (to_z-of_z fits) c.refuse.ensures)
+    (record { desk = refl; signer = refl }) (subst P (to_z-of_z fits) c.refuse.ensures.sent)
 
 pub returns-in-Answer-clause-served : goal.returns-in-Answer-clause-served
 returns-in-Answer-clause-served g c = λ r is before after read ended.
@@ -35,9 +36,28 @@ returns-in-Answer-clause-served g c = λ r is before after read ended.
     let start = head_view c.in-Answer.head in
     let body = c.in-Answer.body.now in
     let D : Due → Type 0 = λ d. IsDue r d in
-    let P : ℤ → Type 0 = λ at. Handles g.B.Standing g.G.Signer.signs g.G.Signer.fault_count g.W.Write.contents
-    (record { reading = at; head = start; body = body }) c.in-Answer.action c.args.writer.now c.handle.new.writer
+    let P : ℤ → Type 0 = λ at. Handles g.B.Standing g.G.Signer.signs g.G.Signer.fault_count g.W.Write.contents at
+    (asked_by c.args.desk.now.setting.file at start body c.in-Answer.action) c.args.writer.now c.handle.new.writer
     c.args.desk.now c.handle.new.desk c.args.signer.now c.handle.new.signer c.handle.result in
     subst P (to_z-of_z fits) c.handle.ensures.served before after
     (answerable c.args.desk.now.setting.file reading before after _ c.in-Answer.action c.in-Answer.head body
     (subst D c.in-Answer.is is) read)
+
+pub returns-in-Answer-clause-failed : goal.returns-in-Answer-clause-failed
+returns-in-Answer-clause-failed g c =
+    let file = c.args.desk.now.setting.file in
+    let reading = c.args.environment.reading in
+    let action = c.in-Answer.action in
+    let start = c.in-Answer.head in
+    let body = c.in-Answer.body.now in
+    let fits : SFits w64 reading = search rules in
+    let P : ℤ → Type 0 = λ at. IsByRows (asked_by file at (head_view start) body action) in
+    elim c.handle.ensures.failed [
+      | inl tells ↦ inl tells
+      | inr rows ↦
+          inr (λ r is before after read. (
+            asked_by file reading (head_view start) body action,
+            subst P (to_z-of_z fits) rows,
+            answerable file reading before after _ action start body (subst (λ d. IsDue r d) c.in-Answer.is is) read,
+          ))
+    ]

@@ -1,5 +1,6 @@
-use Rattle.std.proofs.Common.{ℤ, SFits, rules, subst, to_z-of_z, w64}
+use Rattle.std.proofs.Common.{ℤ, SFits, inl, inr, rules, subst, to_z-of_z, w64}
 use Rattle.service.specs.Served.{Serves}
+use Rattle.service.specs.Stamps.{ReadsRows}
 use Rattle.service.proofs.ServingLemmas.{turn}
 use Rattle.service.proofs.exchange.serve_one.Goals as goal
 
@@ -11,3 +12,13 @@ returns-clause-served g c =
     c.serve_over.new.writer c.args.desk.now c.serve_over.new.desk c.args.signer.now c.serve_over.new.signer)
     c.serve_over.result in
     subst P (to_z-of_z fits) c.serve_over.ensures.served
+
+pub returns-clause-failed : goal.returns-clause-failed
+returns-clause-failed g c =
+    let fits : SFits w64 c.args.reading = search rules in
+    let P : ℤ → Type 0 = λ at. ReadsRows c.args.desk.now.setting.file at (g.R.Read.remaining c.args.reader.now)
+    (g.R.Read.remaining c.serve_over.new.reader) in
+    elim c.serve_over.ensures.failed [
+      | inl tells ↦ inl tells
+      | inr rows ↦ inr (subst P (to_z-of_z fits) rows)
+    ]

@@ -1,11 +1,13 @@
-use Rattle.std.proofs.Common.{◌≡◌, ◌∙◌, ℤ, List, ℕ, ap, arith, length, refl, rules, subst, sym, take, true, false}
+use Rattle.std.proofs.Common.{◌≡◌, ◌∙◌, ℤ, List, ℕ, ap, arith, inl, inr, length, refl, rules, subst, sym, take, true, false}
 use Rattle.std.proofs.Common.{SFits, w64, to_z-of_z}
 use Rattle.std.proofs.KnownBytes.{Consumes-nil, Consumes-trans}
 use Rattle.std.proofs.lemmas.List.{take_all}
 use Rattle.std.specs.Io.KnownBytes.{Consumes}
 use Rattle.service.specs.Received.{is_open}
 use Rattle.service.specs.Requests.{nothing}
-use Rattle.service.specs.Served.{Sends, Serves, unavailable}
+use Rattle.service.specs.Answers.{unavailable}
+use Rattle.service.specs.Served.{Sends, Serves}
+use Rattle.service.specs.Stamps.{ReadsRows}
 use Rattle.service.proofs.RequestLemmas.{open_parts}
 use Rattle.service.proofs.ServingLemmas.{turn, wanting_early}
 use Rattle.service.proofs.exchange.serve_over.Goals as goal
@@ -20,7 +22,7 @@ returns-in_default-clause-served g c =
     c.out_of_memory.new.writer
     c.args.desk.now c.args.desk.now c.args.signer.now c.args.signer.now)
     c.out_of_memory.result (nothing (Consumes-nil _)) (record { desk = refl; signer = refl })
-    (subst P (to_z-of_z fits) c.out_of_memory.ensures)
+    (subst P (to_z-of_z fits) c.out_of_memory.ensures.sent)
 
 pub reading-preserved : goal.reading-preserved
 reading-preserved g c =
@@ -51,3 +53,19 @@ returns-clause-served g c =
     subst P (to_z-of_z fits)
     (c.serve.ensures.served before after (subst C (sym all) c.reading.invariant.consumed)
     (λ ended some. c.reading.invariant.ended ended))
+
+pub returns-clause-failed : goal.returns-clause-failed
+returns-clause-failed g c =
+    let r = c.reading.request in
+    let before = g.R.Read.remaining c.args.reader.now in
+    let after = g.R.Read.remaining c.reading.reader in
+    let closed : is_open r ≡ false = sym c.is_open.ensures ∙ c.reading-test.false in
+    let all : take r.taken r.octets ≡ r.octets =
+    ap (λ n. take n r.octets) (c.reading.invariant.exact closed) ∙ take_all (length r.octets) r.octets (omega arith) in
+    let C : List ℕ → Type 0 = λ l. Consumes before after l in
+    let fits : SFits w64 c.args.surroundings.reading = search rules in
+    let P : ℤ → Type 0 = λ at. ReadsRows c.args.desk.now.setting.file at before after in
+    elim c.serve.ensures.failed [
+      | inl tells ↦ inl tells
+      | inr rows ↦ inr (subst P (to_z-of_z fits) (rows before after (subst C (sym all) c.reading.invariant.consumed)))
+    ]

@@ -16,7 +16,7 @@ returns-in-Err-clause-served g c =
     (rw c.store.ensures.same at c.in-Err.ensures.unasked)
     (rw c.store.ensures.same at c.in-Err.ensures.faults)
     (search rules)
-    c.from.ensures c.refuse.ensures
+    c.from.ensures c.refuse.ensures.sent
 
 pub returns-in-Err-Write-clause-served : goal.returns-in-Err-Write-clause-served
 returns-in-Err-Write-clause-served g c =
