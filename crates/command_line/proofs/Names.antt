@@ -4,7 +4,7 @@ use Rattle.std.specs.Prelude.{IfSome, IsNone}
 use Rattle.std.specs.Str.{bytes_eq}
 use Rattle.clap.specs.Words.{Row, Text}
 use Rattle.command_line.specs.Words.{IsAsked, IsUnasked, StatesAnswer, StatesAudit, StatesCalibrate, StatesCheck}
-use Rattle.command_line.specs.Words.{StatesContinue, needs_signer}
+use Rattle.command_line.specs.Words.{StatesContinue, StatesExplain, needs_signer}
 use Rattle.command_line.specs.Words.{StatesExchange, StatesHold, StatesInit, StatesMigrate, StatesServe, StatesTst}
 use Rattle.command_line.specs.declared.words.AnswerWords.{AnswerWords}
 use Rattle.command_line.specs.declared.words.AuditWords.{AuditWords}
@@ -12,6 +12,7 @@ use Rattle.command_line.specs.declared.words.CalibrateWords.{CalibrateWords}
 use Rattle.command_line.specs.declared.words.CheckWords.{CheckWords}
 use Rattle.command_line.specs.declared.words.ContinueWords.{ContinueWords}
 use Rattle.command_line.specs.declared.words.ExchangeWords.{ExchangeWords}
+use Rattle.command_line.specs.declared.words.ExplainWords.{ExplainWords}
 use Rattle.command_line.specs.declared.words.HoldWords.{HoldWords}
 use Rattle.command_line.specs.declared.words.InitWords.{InitWords}
 use Rattle.command_line.specs.declared.words.MigrateWords.{MigrateWords}
@@ -19,7 +20,7 @@ use Rattle.command_line.specs.declared.words.ServeWords.{ServeWords}
 use Rattle.command_line.specs.declared.words.TstWords.{TstWords}
 use Rattle.command_line.specs.declared.words.Word.{Word}
 use Rattle.command_line.specs.declared.words.Word.TheVariants.{Tst, Check, Init, Migrate, Continue, Calibrate, Hold}
-use Rattle.command_line.specs.declared.words.Word.TheVariants.{Answer, Exchange, Serve, Audit}
+use Rattle.command_line.specs.declared.words.Word.TheVariants.{Answer, Exchange, Serve, Audit, Explain}
 
 -- what is asked by one name is asked by an equal one
 pub named_found : {name other : Text} (rows : List Row) (result : Option Word) → name ≡ other
@@ -48,6 +49,7 @@ name_of (Answer words) = codes "answer"
 name_of (Exchange words) = codes "exchange"
 name_of (Serve words) = codes "serve"
 name_of (Audit words) = codes "audit"
+name_of (Explain words) = codes "explain"
 
 asked_by_name : (name : Text) (rows : List Row) (word : Word) → IsAsked name rows word → name ≡ name_of word
 asked_by_name name rows (Tst words) asked = asked.0
@@ -61,6 +63,7 @@ asked_by_name name rows (Answer words) asked = asked.0
 asked_by_name name rows (Exchange words) asked = asked.0
 asked_by_name name rows (Serve words) asked = asked.0
 asked_by_name name rows (Audit words) asked = asked.0
+asked_by_name name rows (Explain words) asked = asked.0
 
 pub no_tst : (rows : List Row) → ((words : TstWords) → StatesTst rows words → ⊥) → (word : Word)
     → IsAsked (codes "tst") rows word → ⊥
@@ -128,6 +131,12 @@ no_audit rows none (Audit words) asked = none words asked.1
 no_audit rows none word asked =
     differ (codes "audit") (name_of word) refl refl (asked_by_name (codes "audit") rows word asked)
 
+pub no_explain : (rows : List Row) → ((words : ExplainWords) → StatesExplain rows words → ⊥) → (word : Word)
+    → IsAsked (codes "explain") rows word → ⊥
+no_explain rows none (Explain words) asked = none words asked.1
+no_explain rows none word asked =
+    differ (codes "explain") (name_of word) refl refl (asked_by_name (codes "explain") rows word asked)
+
 not_needed : (name other : Text) → name ≡ other → needs_signer other ≡ false → needs_signer name ≡ true → ⊥
 not_needed name other is unneeded needs =
     let both : true ≡ false = sym needs ∙ ap needs_signer is ∙ unneeded in
@@ -145,15 +154,23 @@ none_signed name rows answer exchange serve needs word asked =
 -- and these are the others
 pub none_other : (name : Text) (rows : List Row) → (name ≡ codes "tst" → ⊥) → (name ≡ codes "check" → ⊥)
     → (name ≡ codes "init" → ⊥) → (name ≡ codes "migrate" → ⊥) → (name ≡ codes "continue" → ⊥)
-    → (name ≡ codes "calibrate" → ⊥) → (name ≡ codes "hold" → ⊥) → (name ≡ codes "audit" → ⊥) → (needs_signer name ≡ true → IsUnasked name rows)
-    → (word : Word) → IsAsked name rows word → ⊥
-none_other name rows tst check init migrate carry calibrate hold audit signed (Tst words) asked = tst asked.0
-none_other name rows tst check init migrate carry calibrate hold audit signed (Check words) asked = check asked.0
-none_other name rows tst check init migrate carry calibrate hold audit signed (Init words) asked = init asked.0
-none_other name rows tst check init migrate carry calibrate hold audit signed (Migrate words) asked = migrate asked.0
-none_other name rows tst check init migrate carry calibrate hold audit signed (Continue words) asked = carry asked.0
-none_other name rows tst check init migrate carry calibrate hold audit signed (Calibrate words) asked = calibrate asked.0
-none_other name rows tst check init migrate carry calibrate hold audit signed (Hold words) asked = hold asked.0
-none_other name rows tst check init migrate carry calibrate hold audit signed (Audit words) asked = audit asked.0
-none_other name rows tst check init migrate carry calibrate hold audit signed word asked =
+    → (name ≡ codes "calibrate" → ⊥) → (name ≡ codes "hold" → ⊥) → (name ≡ codes "audit" → ⊥)
+    → (name ≡ codes "explain" → ⊥) → (needs_signer name ≡ true → IsUnasked name rows) → (word : Word)
+    → IsAsked name rows word → ⊥
+none_other name rows tst check init migrate carry calibrate hold audit explain signed (Tst words) asked = tst asked.0
+none_other name rows tst check init migrate carry calibrate hold audit explain signed (Check words) asked =
+    check asked.0
+none_other name rows tst check init migrate carry calibrate hold audit explain signed (Init words) asked = init asked.0
+none_other name rows tst check init migrate carry calibrate hold audit explain signed (Migrate words) asked =
+    migrate asked.0
+none_other name rows tst check init migrate carry calibrate hold audit explain signed (Continue words) asked =
+    carry asked.0
+none_other name rows tst check init migrate carry calibrate hold audit explain signed (Calibrate words) asked =
+    calibrate asked.0
+none_other name rows tst check init migrate carry calibrate hold audit explain signed (Hold words) asked = hold asked.0
+none_other name rows tst check init migrate carry calibrate hold audit explain signed (Audit words) asked =
+    audit asked.0
+none_other name rows tst check init migrate carry calibrate hold audit explain signed (Explain words) asked =
+    explain asked.0
+none_other name rows tst check init migrate carry calibrate hold audit explain signed word asked =
     signed (ap needs_signer (asked_by_name name rows word asked)) word asked

@@ -215,3 +215,21 @@ pub audit_is_taken : AreTaken (codes "counter" ∷ codes "audit" ∷ codes "--db
     ∷ codes "--from=0" ∷ codes "--to=9223372036854775807" ∷ codes "--check" ∷ [])
 unfolding clap_on_literals
 audit_is_taken = (refl, refl)
+
+pub judging_is_taken : AreTaken (codes "counter" ∷ codes "audit" ∷ codes "--db=a" ∷ codes "--rules=b" ∷ codes
+    "--account=c"
+    ∷ codes "--from=0" ∷ codes "--to=5" ∷ codes "--judge" ∷ codes "--check" ∷ [])
+unfolding clap_on_literals
+judging_is_taken = (refl, refl)
+
+abbrev explain_words : Text → List Text
+explain_words serial =
+    codes "counter" ∷ codes "explain" ∷ codes "--db=a" ∷ codes "--rules=b" ∷ codes "--serial" ∷ serial ∷ []
+
+pub explain_is_taken : AreTaken (explain_words (codes "9223372036854775807"))
+unfolding clap_on_literals
+explain_is_taken = (refl, refl)
+
+pub serials_of_explain_begin_at_one : fault_of counter_command (explain_words (codes "0")) ≡ ValueValidation ∷ []
+unfolding clap_on_literals
+serials_of_explain_begin_at_one = refl

@@ -16,7 +16,7 @@ use Rattle.command_line.specs.declared.words.SignerWords.{SignerWords}
 use Rattle.command_line.specs.declared.words.SignerWords.TheVariants.{Key, Session}
 use Rattle.command_line.specs.declared.words.Word.{Word}
 use Rattle.command_line.specs.declared.words.Word.TheVariants.{Tst, Check, Init, Migrate, Continue, Calibrate, Hold}
-use Rattle.command_line.specs.declared.words.Word.TheVariants.{Answer, Exchange, Serve, Audit}
+use Rattle.command_line.specs.declared.words.Word.TheVariants.{Answer, Exchange, Serve, Audit, Explain}
 
 pub tells_signer : (rows : List Row) (signer : SignerWords) → StatesSigner rows signer → has_one_signer rows ≡ true
 tells_signer rows (Key path) states = rw (states.0, states.1, states.2) refl
@@ -78,6 +78,7 @@ asked_is_unmixed name rows (Exchange words) asked =
 asked_is_unmixed name rows (Serve words) asked =
     unmixed name rows (tells_signer rows words.desk.signer asked.1.desk.signer)
 asked_is_unmixed name rows (Audit words) asked = unasked name (codes "audit") rows asked.0 refl
+asked_is_unmixed name rows (Explain words) asked = unasked name (codes "explain") rows asked.0 refl
 
 pub untold_signer : (rows : List Row) (words : DeskWords) → has_one_signer rows ≡ false → StatesDesk rows words → ⊥
 untold_signer rows words none states =

@@ -178,7 +178,11 @@ audit_options =
     ∷ from_option
     ∷ to_option
     ∷ optional_flag (codes "check")
+    ∷ optional_flag (codes "judge")
     ∷ []
+
+abbrev pub explain_options : List Rule
+explain_options = database_option ∷ rules_option ∷ serial_option ∷ []
 
 abbrev pub with_rules : List Rule → App → App
 with_rules rules = on_top (λ top. record top { rules = rules })
@@ -216,6 +220,9 @@ serve_command = with_rules serve_options (new_app (codes "serve"))
 abbrev pub audit_command : App
 audit_command = with_rules audit_options (new_app (codes "audit"))
 
+abbrev pub explain_command : App
+explain_command = with_rules explain_options (new_app (codes "explain"))
+
 abbrev pub with_subcommands : List App → App → App
 with_subcommands [] app = app
 with_subcommands (sub ∷ subs) app = with_subcommands subs (with_subcommand app sub.top)
@@ -233,6 +240,7 @@ subcommands =
     ∷ exchange_command
     ∷ serve_command
     ∷ audit_command
+    ∷ explain_command
     ∷ []
 
 -- the program without its subcommands, of which one has to be there; it has a version to tell

@@ -21,6 +21,7 @@ use Rattle.command_line.specs.declared.words.CheckWords.{CheckWords}
 use Rattle.command_line.specs.declared.words.ContinueWords.{ContinueWords}
 use Rattle.command_line.specs.declared.words.DeskWords.{DeskWords}
 use Rattle.command_line.specs.declared.words.ExchangeWords.{ExchangeWords}
+use Rattle.command_line.specs.declared.words.ExplainWords.{ExplainWords}
 use Rattle.command_line.specs.declared.words.FloorWords.{FloorWords}
 use Rattle.command_line.specs.declared.words.HoldWords.{HoldWords}
 use Rattle.command_line.specs.declared.words.InitWords.{InitWords}
@@ -31,7 +32,7 @@ use Rattle.command_line.specs.declared.words.SignerWords.TheVariants.{Key, Sessi
 use Rattle.command_line.specs.declared.words.TstWords.{TstWords}
 use Rattle.command_line.specs.declared.words.Word.{Word}
 use Rattle.command_line.specs.declared.words.Word.TheVariants.{Tst, Check, Init, Migrate, Continue, Calibrate, Hold}
-use Rattle.command_line.specs.declared.words.Word.TheVariants.{Answer, Exchange, Serve, Audit}
+use Rattle.command_line.specs.declared.words.Word.TheVariants.{Answer, Exchange, Serve, Audit, Explain}
 
 -- the octets of each word
 abbrev pub texts_of : List (String Global) → List Text
@@ -139,6 +140,12 @@ pub record StatesAudit (rows : List Row) (words : AuditWords) : Type 0 where
   pub from : StatesNumber rows (codes "from") words.from
   pub to : StatesNumber rows (codes "to") words.to
   pub check : StatesFlag rows (codes "check") words.check
+  pub judge : StatesFlag rows (codes "judge") words.judge
+
+pub record StatesExplain (rows : List Row) (words : ExplainWords) : Type 0 where
+  pub db : first_of (codes "db") rows ≡ Some words.db.now
+  pub rules : first_of (codes "rules") rows ≡ Some words.rules.now
+  pub serial : StatesNumber rows (codes "serial") words.serial
 
 -- the subcommand of this name, and what was found for its options, is what is asked
 abbrev pub IsAsked : Text → List Row → Word → Type 0
@@ -153,6 +160,7 @@ IsAsked name rows (Answer words) = (name ≡ codes "answer") × StatesAnswer row
 IsAsked name rows (Exchange words) = (name ≡ codes "exchange") × StatesExchange rows words
 IsAsked name rows (Serve words) = (name ≡ codes "serve") × StatesServe rows words
 IsAsked name rows (Audit words) = (name ≡ codes "audit") × StatesAudit rows words
+IsAsked name rows (Explain words) = (name ≡ codes "explain") × StatesExplain rows words
 
 -- no word of this name is what these options state
 abbrev pub IsUnasked : Text → List Row → Type 0

@@ -13,5 +13,6 @@ mod words;
 pub use refusal::WordsRefusal;
 pub use words::{
     AnswerWords, AuditWords, CalibrateWords, CheckWords, ContinueWords, DeskWords, ExchangeWords,
-    FloorWords, HoldWords, InitWords, MigrateWords, ServeWords, SignerWords, TstWords, Word,
+    ExplainWords, FloorWords, HoldWords, InitWords, MigrateWords, ServeWords, SignerWords,
+    TstWords, Word,
 };

@@ -15,9 +15,10 @@ use crate::signer::{error_of, signer_words};
 use crate::table::{
     ACCURACIES, CONNECTIONS, DIGITS, MOMENTS, SERIALS, UNCERTAINTIES, WHOLE_NUMBERS,
 };
+use crate::version::LOGIC;
 use crate::words::{
     AnswerWords, AuditWords, CalibrateWords, CheckWords, ContinueWords, DeskWords, ExchangeWords,
-    FloorWords, HoldWords, InitWords, MigrateWords, ServeWords, TstWords, Word,
+    ExplainWords, FloorWords, HoldWords, InitWords, MigrateWords, ServeWords, TstWords, Word,
 };
 use clap::error::ErrorKind;
 use clap::{ArgMatches, Error};
@@ -32,7 +33,7 @@ impl<'a> Word<'a> {
     {
         match matched(alloc, words) {
             Ok(word) => Ok(word),
-            Err(error) => match refusal_of(alloc, &error) {
+            Err(error) => match refusal_of(alloc, words, &error) {
                 Ok(refusal) => Err(refusal),
                 Err(_) => Err(WordsRefusal::Memory),
             },
@@ -78,8 +79,9 @@ fn asked_in<'a>(alloc: Global, matches: &ArgMatches<'a>) -> Result<Word<'a>, Err
     }
 }
 
-/// What `clap` shows on standard output is help or the version, and anything else is a mistake.
-fn refusal_of(alloc: Global, error: &Error) -> Result<WordsRefusal, AllocError>
+/// What `clap` shows on standard output is help or the version, and anything else is a mistake. With `--long` the version
+/// comes with the logic.
+fn refusal_of(alloc: Global, words: &[String], error: &Error) -> Result<WordsRefusal, AllocError>
     ensures { IfOk result (IsShown (kind_of error.now)) }
 {
     if error.kind() == ErrorKind::OutOfMemory {
@@ -88,9 +90,16 @@ fn refusal_of(alloc: Global, error: &Error) -> Result<WordsRefusal, AllocError>
     let text = format!(in alloc; "{error}")?;
     if error.use_stderr() {
         Ok(WordsRefusal::Mistake(text))
+    } else if is_long_version(words, error) {
+        let long = format!(in alloc; "{text}{LOGIC}\n")?;
+        Ok(WordsRefusal::Help(long))
     } else {
         Ok(WordsRefusal::Help(text))
     }
+}
+
+fn is_long_version(words: &[String], error: &Error) -> bool {
+    error.kind() == ErrorKind::DisplayVersion && words.iter().any(|word| word.as_str() == "--long")
 }
 
 fn word_of<'a>(matches: &ArgMatches<'a>) -> Option<Word<'a>>
@@ -119,6 +128,7 @@ fn word_named<'a>(name: &str, words: &ArgMatches<'a>) -> Option<Word<'a>>
         "calibrate" => calibrate_word(words),
         "hold" => hold_word(words),
         "audit" => audit_word(words),
+        "explain" => explain_word(words),
         _ => signed_word_named(name, words),
     }
 }
@@ -383,7 +393,24 @@ fn audit_word<'a>(matches: &ArgMatches<'a>) -> Option<Word<'a>>
         from,
         to,
         check: matches.get_flag("check"),
+        judge: matches.get_flag("judge"),
     }))
+}
+
+fn explain_word<'a>(matches: &ArgMatches<'a>) -> Option<Word<'a>>
+    ensures found { IfSome result (IsAsked (codes "explain") (rows_of (found_of matches.now))) }
+    ensures none { IsNone result → IsUnasked (codes "explain") (rows_of (found_of matches.now)) }
+{
+    let Some(db) = matches.get_str("db") else {
+        return None;
+    };
+    let Some(rules) = matches.get_str("rules") else {
+        return None;
+    };
+    let Some(serial) = number(matches, "serial", SERIALS) else {
+        return None;
+    };
+    Some(Word::Explain(ExplainWords { db, rules, serial }))
 }
 
 fn number(matches: &ArgMatches<'_>, name: &str, numbers: Numbers) -> Option<u64>

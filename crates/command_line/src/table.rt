@@ -362,6 +362,28 @@ const AUDIT: SubcommandRow = SubcommandRow {
             required: false,
             help: "Checks each row, and names those that fail",
         },
+        OptionRow {
+            name: "judge",
+            value: Value::Nothing,
+            required: false,
+            help: "Judges each stamp by the policy file, and names those that it doesn't give",
+        },
+    ],
+};
+
+const EXPLAIN: SubcommandRow = SubcommandRow {
+    name: "explain",
+    full_name: "counter explain",
+    about: "Writes what a stamp was asked by, and how each rule of the policy file judges it",
+    options: &[
+        DATABASE,
+        RULES,
+        OptionRow {
+            name: "serial",
+            value: Value::Number(SERIALS),
+            required: true,
+            help: "The stamp's serial number",
+        },
     ],
 };
 
@@ -369,7 +391,7 @@ const AUDIT: SubcommandRow = SubcommandRow {
 
 static FIRST_ROWS: [SubcommandRow; 6] = [TST, CHECK, INIT, MIGRATE, CONTINUE, CALIBRATE];
 
-static LAST_ROWS: [SubcommandRow; 5] = [HOLD, ANSWER, EXCHANGE, SERVE, AUDIT];
+static LAST_ROWS: [SubcommandRow; 6] = [HOLD, ANSWER, EXCHANGE, SERVE, AUDIT, EXPLAIN];
 
 /// The first six subcommands, in the order of the text of help.
 pub fn first_rows() -> &'static [SubcommandRow]

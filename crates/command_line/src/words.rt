@@ -25,6 +25,8 @@ pub enum Word<'a> {
     Serve(ServeWords<'a>),
     /// Writes an extract of the stamps.
     Audit(AuditWords<'a>),
+    /// Explains a stamp.
+    Explain(ExplainWords<'a>),
 }
 
 /// Who signs.
@@ -107,8 +109,23 @@ pub struct AuditWords<'a> {
     pub to: u64,
     /// Whether each row is checked as well.
     pub check: bool,
+    /// Whether each stamp is judged as well.
+    pub judge: bool,
     ghost first: { from < 2 ^ 63 },
     ghost last: { to < 2 ^ 63 },
+}
+
+/// The words of `explain`.
+#[derive(Clone, Copy)]
+pub struct ExplainWords<'a> {
+    /// The database's path.
+    pub db: &'a str,
+    /// The policy file's path.
+    pub rules: &'a str,
+    /// The stamp's serial number.
+    pub serial: u64,
+    ghost first_serial: { 1 ≤ serial },
+    ghost last_serial: { serial < 2 ^ 63 },
 }
 
 /// The words of `init`.

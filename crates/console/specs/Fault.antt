@@ -19,14 +19,14 @@ use Rattle.command_line.specs.declared.refusal.WordsRefusal.TheVariants as refus
 use Rattle.console.specs.declared.fault.Fault.{Fault}
 use Rattle.console.specs.declared.fault.Fault.TheVariants.{Der, Tsp, Cms, Policy, Store, Desk, Audit, Input}
 use Rattle.console.specs.declared.fault.InputFault.{InputFault}
-use Rattle.console.specs.declared.fault.InputFault.TheVariants.{NotHexadecimal, File, Hold, Account, Failed, Address}
+use Rattle.console.specs.declared.fault.InputFault.TheVariants.{NotHexadecimal, File, Hold, Unknown, Failed, Address}
 use Rattle.console.specs.declared.fault.InputFault.TheVariants.{Memory, Signer, NotAfter}
 
 abbrev pub number_of : InputFault → ℕ
 number_of NotHexadecimal = 1
 number_of File = 2
 number_of Hold = 3
-number_of Account = 4
+number_of Unknown = 4
 number_of Failed = 5
 number_of Address = 6
 number_of Memory = 7

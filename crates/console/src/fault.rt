@@ -168,8 +168,8 @@ pub enum InputFault {
     File = 2,
     /// A hold doesn't begin before it ends.
     Hold = 3,
-    /// No account has that key or name.
-    Account = 4,
+    /// No account has that key or name, or no stamp that serial number.
+    Unknown = 4,
     /// Standard input or output failed, or the clock, or the database or memory in the middle of an extract by
     /// `exchange`.
     Failed = 5,

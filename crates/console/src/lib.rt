@@ -19,6 +19,7 @@ pub use check::{check_policy, read_policy};
 pub use fault::{Fault, InputFault};
 pub use files::{read_algorithm, read_identity, read_signer};
 pub use hexadecimal::{read_hexadecimal, write_hexadecimal};
+pub use output::write_answer;
 pub use source::FileSource;
 pub use status::{DONE, FAULT, WORDS_REFUSED, explain, refuse_octets, report};
 pub use tst::answer_tst;

@@ -1,8 +1,8 @@
 -- How a history goes on in a new book.
-use Rattle.std.proofs.Common.{◌≡◌, ◌⊎◌, ℕ, ◌<◌, ◌≤◌, ◌==◌, ◌&&◌, ◌||◌, max, Bool, true, false, not, nat_le, nat_lt, List, []}
+use Rattle.std.proofs.Common.{◌≡◌, ℕ, ◌<◌, ◌≤◌, ◌==◌, ◌&&◌, max, Bool, true, false, not, nat_le, List, []}
 use Rattle.std.proofs.Common.{◌∷◌, ◌++◌, map, reverse, Option, None, Some, option_map, option_to_list, refl, sym, ap, ap₂}
 use Rattle.std.proofs.Common.{◌∙◌, subst, inl, inr, arith, Result, Ok, Err, IfOk, IfErr, append_assoc, if◌then◌else◌, find, length, take, get_or, ◌+◌}
-use Rattle.std.specs.Prelude.{OnOk}
+use Rattle.std.specs.Prelude.{OnErr, OnOk}
 use Rattle.std.specs.List.{filter, list_any}
 use Rattle.std.proofs.Math.Nat.{le-max_left, le-max_right, max-eq_left}
 use Rattle.std.proofs.lemmas.Bool.{le-leb, le-ltb, lt-leb, lt-ltb, eq-eqb}
@@ -12,10 +12,10 @@ use Rattle.std.proofs.lemmas.List.Sorted.{IsPermutation-reverse, list_any-IsPerm
 use Rattle.gentime.specs.GenTime.{last_moment}
 use Rattle.book.specs.Continuation.{Floor as Void, all_moments, closed, continued, entry_if, first_entries, holds_all}
 use Rattle.book.specs.Continuation.{IsAbove, IsAboveIfAny, identity_since, is_closed, last_reservation, last_stamp}
-use Rattle.book.specs.Continuation.{other_holds, stamp_with_identity}
+use Rattle.book.specs.Continuation.{stamp_with_identity}
 use Rattle.book.specs.Entries.{Appends, FitInTurn, with_all}
 use Rattle.book.specs.Fault.{IsOfStorage}
-use Rattle.book.specs.History.{Entry, Reserved, Installed, Calibrated, Held, History, HoldValue, InstalledValue}
+use Rattle.book.specs.History.{Entry, Reserved, Installed, Calibrated, Held, History, HoldValue}
 use Rattle.book.specs.History.{CalibrationValue}
 use Rattle.book.specs.History.{ReservationValue, first_of, greatest_of, greatest_serial, holds, last_gen_time}
 use Rattle.book.specs.History.{latest_calibration}
@@ -24,29 +24,30 @@ use Rattle.book.specs.Identities.{identities, identity_at_reservation, identity_
 use Rattle.book.specs.Identities.{installed_rows}
 use Rattle.book.specs.Ranges.{IsNextStamp}
 use Rattle.book.specs.Rows.{InstalledRow, StampRow}
-use Rattle.book.specs.Sound.{Along, IsSound, greatest_number}
+use Rattle.book.specs.Sound.{IsSound, greatest_number}
 use Rattle.book.specs.Stands.{OnlyLooks, Stands}
-use Rattle.book.specs.Values.{calibration_option, hold_view, identity_view, stamp_view}
+use Rattle.book.specs.Values.{hold_view, identity_view, stamp_view}
 use Rattle.book.specs.declared.fault.StoreFault.{StoreFault}
 use Rattle.book.specs.declared.rows.Stamp.{Stamp}
 use Rattle.book.specs.declared.standing.Standing.{Ghosts}
 use Rattle.book.specs.declared.values.Hold.{Hold}
 use Rattle.desk.specs.Content.{IsSoundInFull}
 use Rattle.desk.specs.Continuation.{IsRestated, IsStated, IsStatedIfAny}
-use Rattle.desk.specs.MachineRuns.{IsRising}
-use Rattle.operations.specs.Continuation.{Carries, ClosesKnown, Continues, IsBelow, IsCarried, IsClosedKnown}
-use Rattle.operations.specs.Continuation.{IsLookFault}
-use Rattle.operations.specs.Continuation.{IsRefused, MayBeClosed, Reaches, entries_of, entries_of_hold}
+use Rattle.operations.specs.Continuation.{Carries, Closes, IsCarried}
+use Rattle.operations.specs.Continuation.{Reaches, entries_of, entries_of_hold}
 use Rattle.operations.specs.Continuation.{entries_of_holds, entries_of_identity, entries_of_last, entries_of_stamp}
 use Rattle.operations.specs.Continuation.{identity_since_among, last_stamp_of, latest_of, void_in}
 use Rattle.operations.specs.DatabaseFaults.{IsOpeningFault}
-use Rattle.operations.specs.InDatabases.{IsClosedIn, IsContinuedIn, IsDoneIn, IsMadeIn, IsRefusedIn}
-use Rattle.operations.specs.VoidStamp.{IsNoneAfterIfAny, IsVoidFault, IsVoidIfAny, reserved_as}
+use Rattle.operations.specs.OverFiles.{IsContinuedOver, IsDoneOver, IsMadeOver, IsRefusedBy}
+use Rattle.operations.specs.VoidStamp.{IsVoidIfAny, reserved_as}
+use Rattle.sqlite.specs.Files.{over_files}
+use Rattle.sqlite_disk.specs.declared.Disk.{Ghosts as Disk}
+use Rattle.sqlite_wal.specs.Recovery.{Image}
+use Rattle.store.specs.Stands.{over_tables}
 use Rattle.operations.specs.declared.carried.Carried.{Carried}
 use Rattle.operations.specs.declared.fault.ContinuationFault.{ContinuationFault}
 use Rattle.operations.specs.declared.fault.ContinuationFault.TheVariants.{Unopened, Unclosed, NotAfter, Unfinished}
 use Rattle.operations.specs.declared.void_stamp.Floor.{Floor}
-use Rattle.operations.proofs.CheckedStamps.{looks_after}
 
 -- ---- lists
 
@@ -281,78 +282,68 @@ next_hold old now new hs i d inside before more =
 
 -- ---- the old book
 
+err_weaker : {A E : Type 0} {P Q : Type 0} (done : Result A E) → (P → Q) → OnErr done P → OnErr done Q
+err_weaker (Ok a) more it = tt
+err_weaker (Err e) more it = more it
+
 -- nothing is done to it, since it is closed
 pub closed_already : {X : Type 0} (g : Ghosts X) (Knows : History → Type 0) (book : X)
-    → ((b : History) → Knows b → is_closed b ≡ true) → ClosesKnown {A = Unit {0}} g Knows book book (Ok tt)
+    → ((b : History) → Knows b → is_closed b ≡ true)
+    → Closes {A = Unit {0}} {E = StoreFault} g Knows book book (Ok tt)
 closed_already g Knows book tells = record {
   honest = λ h. h;
   closes = λ h b s k. rw (tells b k) s;
-  kept = λ b s. tt;
+  kept = λ h b s k. tt;
   crash = λ h l leaves. inl leaves;
 }
 
 -- a hold of all moments is added
 pub closed_now : {X : Type 0} (g : Ghosts X) (Knows : History → Type 0) (old new : X) (done : Result (Unit {0}) StoreFault)
     → ((b : History) → Knows b → is_closed b ≡ false) → FitInTurn (Held all_moments ∷ []) []
-    → Appends g (Held all_moments ∷ []) old new done → ClosesKnown g Knows old new done
+    → Appends g (Held all_moments ∷ []) old new done → Closes g Knows old new done
 closed_now g Knows old new done tells fit appends = record {
   honest = appends.honest;
   closes = λ h b s k. rw (tells b k) (appends.ok b s (fit.0, tt));
-  kept = appends.err;
+  kept = λ h b s k. err_weaker done (λ stands. inl stands) (appends.err b s);
   crash = λ h l leaves. elim (appends.crash h l leaves) [
     | inl before ↦ inl before
     | inr adds ↦ inr (λ b s k. rw (tells b k) (adds b s (fit.0, tt)))
   ];
 }
 
-pub may_be_closed : {X A : Type 0} (g : Ghosts X) (Knows : History → Type 0) (old new : X) (fault : StoreFault)
-    → ClosesKnown {A = A} g Knows old new (Err fault) → MayBeClosed g Knows old new
-may_be_closed g Knows old new fault closes =
-    record { honest = closes.honest; stands = λ h b s k. inl (closes.kept b s); crash = closes.crash }
+-- and then a stop leaves nothing else
+pub settled_now : {X : Type 0} (g : Ghosts X) (old new : X) (done : Result (Unit {0}) StoreFault)
+    → FitInTurn (Held all_moments ∷ []) [] → Appends g (Held all_moments ∷ []) old new done → g.honest new
+    → (left : g.Left) → g.leaves new left → (b : History) → Stands g b old → is_closed b ≡ false
+    → OnOk done (g.holds left (closed b))
+settled_now g old new (Ok done) fit appends honest left leaves b s k =
+    rw k ((appends.ok b s (fit.0, tt)).settled honest (appends.opened honest).1 left leaves)
+settled_now g old new (Err fault) fit appends honest left leaves b s k = tt
 
 -- what is said of histories that are known is said of others, where they are known
-pub known_from : {X : Type 0} (g : Ghosts X) (Knows Knew : History → Type 0) (old mid new : X) → OnlyLooks g old mid
-    → (g.honest mid → (b : History) → Stands g b old → Knew b → Knows b) → IsClosedKnown g Knows mid new
-    → IsClosedKnown g Knew old new
-known_from g Knows Knew old mid new looks tells closes = record {
+pub known_from : {X A E : Type 0} (g : Ghosts X) (Knows Knew : History → Type 0) (old mid new : X) (done : Result A E)
+    → OnlyLooks g old mid → (g.honest mid → (b : History) → Stands g b old → Knew b → Knows b)
+    → Closes g Knows mid new done → Closes g Knew old new done
+known_from g Knows Knew old mid new done looks tells closes = record {
   honest = λ h. looks.honest (closes.honest h);
   closes = λ h b s k. closes.closes h b (looks.stands b s) (tells (closes.honest h) b s k);
+  kept = λ h b s k. closes.kept h b (looks.stands b s) (tells (closes.honest h) b s k);
   crash = λ h l leaves. elim (closes.crash h l leaves) [
     | inl before ↦ inl (looks.leaves (closes.honest h) l before)
     | inr adds ↦ inr (λ b s k. adds b (looks.stands b s) (tells (closes.honest h) b s k))
   ];
 }
 
-pub may_from : {X : Type 0} (g : Ghosts X) (Knows Knew : History → Type 0) (old mid new : X) → OnlyLooks g old mid
-    → (g.honest mid → (b : History) → Stands g b old → Knew b → Knows b) → MayBeClosed g Knows mid new
-    → MayBeClosed g Knew old new
-may_from g Knows Knew old mid new looks tells may = record {
-  honest = λ h. looks.honest (may.honest h);
-  stands = λ h b s k. may.stands h b (looks.stands b s) (tells (may.honest h) b s k);
-  crash = λ h l leaves. elim (may.crash h l leaves) [
-    | inl before ↦ inl (looks.leaves (may.honest h) l before)
-    | inr adds ↦ inr (λ b s k. adds b (looks.stands b s) (tells (may.honest h) b s k))
-  ];
-}
+-- the same closing, told of another answer
+pub closes_as : {X A C : Type 0} (g : Ghosts X) (Knows : History → Type 0) (old new : X) (a : A) (c : C)
+    → Closes {E = StoreFault} g Knows old new (Ok a) → Closes {E = StoreFault} g Knows old new (Ok c)
+closes_as g Knows old new a c closes =
+    record { honest = closes.honest; closes = closes.closes; kept = closes.kept; crash = closes.crash }
 
-pub carries_after : {X : Type 0} (g : Ghosts X) (Knows Knew : History → Type 0) (floor : Option Floor)
-    (old mid new : X) (done : Result Carried ContinuationFault) → OnlyLooks g old mid
-    → (g.honest mid → (b : History) → Stands g b old → Knew b → Knows b) → Carries g Knows floor mid new done
-    → Carries g Knew floor old new done
-carries_after g Knows Knew floor old mid new (Ok c) looks tells carries = (
-  known_from g Knows Knew old mid new looks tells carries.0,
-  carries.1,
-  λ h b s k. carries.2 h b (looks.stands b s) (tells (carries.0.honest h) b s k),
-)
-carries_after g Knows Knew floor old mid new (Err (Unopened fault)) looks tells refused = absurd refused
-carries_after g Knows Knew floor old mid new (Err (Unclosed fault)) looks tells refused =
-    (refused.0, looks_after g old mid new looks refused.1)
-carries_after g Knows Knew floor old mid new (Err NotAfter) looks tells refused = (
-  looks_after g old mid new looks refused.0,
-  λ h b s k. refused.1 h b (looks.stands b s) (tells (refused.0.honest h) b s k),
-)
-carries_after g Knows Knew floor old mid new (Err (Unfinished fault)) looks tells refused =
-    (refused.0, may_from g Knows Knew old mid new looks tells refused.1)
+pub fails_as : {X A C E : Type 0} (g : Ghosts X) (Knows : History → Type 0) (old new : X) (fault : E)
+    → Closes {A = A} g Knows old new (Err fault) → Closes {A = C} g Knows old new (Err fault)
+fails_as g Knows old new fault closes =
+    record { honest = closes.honest; closes = closes.closes; kept = closes.kept; crash = closes.crash }
 
 pub storage_fault : (fault : StoreFault) → IsOfStorage fault → IsOpeningFault fault
 storage_fault fault (inl is) = inl is
@@ -426,29 +417,39 @@ stated_from (Some floor) (Some s) (Some void) b states whole is asked =
 
 -- ---- both books
 
--- what is told of a closing where it is answered, and where it is refused
-pub closed_in : {B : Type 0} (g : Ghosts B) (Opens Closes : B → Type 0) (floor : Option Floor)
-    (done : Result Carried ContinuationFault)
-    → IsDoneIn Opens Closes (λ opened left. Carries g (λ b. Unit {0}) floor opened left done)
-    → IfOk done (IsClosedIn g Opens Closes floor)
-closed_in g Opens Closes floor (Ok carried) closes = closes
-closed_in g Opens Closes floor (Err fault) closes = tt
+-- it is closed for tokens, or that is refused
+abbrev IsClosedSo : {D : Type 0} → Disk D → Image → Option Floor → Result Carried ContinuationFault → Type 0
+IsClosedSo disk held floor done = IsDoneOver disk held (λ g opened left. Carries g floor opened left done)
 
-pub unclosed_in : {B : Type 0} (g : Ghosts B) (Opens Closes : B → Type 0) (Refuses : StoreFault → Type 0)
-    (floor : Option Floor) (done : Result Carried ContinuationFault)
-    → IsDoneIn Opens Closes (λ opened left. Carries g (λ b. Unit {0}) floor opened left done)
-    → IfErr done (IsRefusedIn g Opens Closes Refuses floor)
-unclosed_in g Opens Closes Refuses floor (Ok carried) closes = tt
-unclosed_in g Opens Closes Refuses floor (Err (Unopened fault)) (opened, found, (left, refused, closed)) = absurd refused
-unclosed_in g Opens Closes Refuses floor (Err (Unclosed fault)) closes = closes
-unclosed_in g Opens Closes Refuses floor (Err NotAfter) closes = closes
-unclosed_in g Opens Closes Refuses floor (Err (Unfinished fault)) closes = closes
+-- where there is room or a refusal of it is known
+pub closed_so : {D : Type 0} (disk : Disk D) (held : Image) (floor : Option Floor) (room : Result (Unit {0}) StoreFault)
+    (done : Result Carried ContinuationFault) → IfErr room IsOpeningFault
+    → IsDoneOver disk held (λ g opened left. IfErr room IsOpeningFault → Carries g floor opened left done)
+    → IsClosedSo disk held floor done
+closed_so disk held floor room done known (opened, found, (left, closes, closed)) =
+    (opened, found, (left, closes known, closed))
+
+-- what is told of a closing where it is answered, and where it is refused
+pub closed_in : {D : Type 0} (disk : Disk D) (held : Image) (floor : Option Floor)
+    (done : Result Carried ContinuationFault) → IsClosedSo disk held floor done
+    → IfOk done (λ carried. IsClosedSo disk held floor (Ok carried))
+closed_in disk held floor (Ok carried) closes = closes
+closed_in disk held floor (Err fault) closes = tt
+
+pub unclosed_in : {D : Type 0} (disk : Disk D) (held : Image) (Refuses : StoreFault → Type 0) (floor : Option Floor)
+    (done : Result Carried ContinuationFault) → IsClosedSo disk held floor done
+    → IfErr done (IsRefusedBy disk held Refuses floor)
+unclosed_in disk held Refuses floor (Ok carried) closes = tt
+unclosed_in disk held Refuses floor (Err (Unopened fault)) (opened, found, (left, refused, closed)) = absurd refused
+unclosed_in disk held Refuses floor (Err (Unclosed fault)) closes = closes
+unclosed_in disk held Refuses floor (Err NotAfter) closes = closes
+unclosed_in disk held Refuses floor (Err (Unfinished fault)) closes = closes
 
 -- closed, with no new one
-pub unfinished_in : {B : Type 0} (g : Ghosts B) (Opens Closes : B → Type 0) (Refuses : StoreFault → Type 0)
-    (floor : Option Floor) (c : Carried) (fault : StoreFault) → IsOpeningFault fault → IsClosedIn g Opens Closes floor c
-    → IsRefusedIn g Opens Closes Refuses floor (Unfinished fault)
-unfinished_in g Opens Closes Refuses floor c fault is (opened, found, (left, closes, closed)) = (
+pub unfinished_in : {D : Type 0} (disk : Disk D) (held : Image) (Refuses : StoreFault → Type 0) (floor : Option Floor)
+    (c : Carried) (fault : StoreFault) → IsOpeningFault fault → IsClosedSo disk held floor (Ok c)
+    → IsRefusedBy disk held Refuses floor (Unfinished fault)
+unfinished_in disk held Refuses floor c fault is (opened, found, (left, closes, closed)) = (
   opened,
   found,
   (
@@ -457,7 +458,8 @@ unfinished_in g Opens Closes Refuses floor c fault is (opened, found, (left, clo
       is,
       record {
         honest = closes.0.honest;
-        stands = λ h b s k. inr (closes.0.closes h b s k);
+        closes = λ h b s k. tt;
+        kept = λ h b s k. inr (closes.0.closes h b s k);
         crash = closes.0.crash;
       },
     ),
@@ -476,10 +478,6 @@ pub record Laws : Type 0 where
       × (last_gen_time (continued (Some void) b) ≡ Some void.gen_time)
       × (token_of void.serial (continued (Some void) b) ≡ None)
   pub states : StatesVoid
-  pub whole : (void : Option Void) (b : History) → IsSoundInFull b → IsAboveIfAny void b → IsStatedIfAny void b
-      → IsSoundInFull (continued void b)
-  pub rising : (void : Option Void) (b : History) → IsSoundInFull b → IsStatedIfAny void b
-      → Along IsRising (continued void b)
 
 reaches_from : Laws → (floor : Option Floor) (last : Option StampRow) (void : Option Void) (b : History) → IsSound b
     → IsVoidIfAny floor last void → IsAboveIfAny void b → Reaches floor b (continued void b)
@@ -494,44 +492,38 @@ reaches_from laws (Some floor) (Some s) (Some void) b sound asked above =
       subst (λ n. token_of n (continued (Some void) b) ≡ None) asked.serial on.2,
     )
 
-pub continued_in : {B C : Type 0} (g : Ghosts B) (Opens Closes : B → Type 0) (h : Ghosts C)
-    (Makes : List Entry → C → Type 0) (ClosesOther : C → Type 0) (floor : Option Floor) (c : Carried) → Laws
-    → IsClosedIn g Opens Closes floor c → IsMadeIn h Makes ClosesOther (entries_of c)
-    → IsContinuedIn g Opens Closes h Makes ClosesOther floor
-continued_in g Opens Closes h Makes ClosesOther floor c laws (opened, found, (left, closes, closed))
-    (made, makes, stands, other) = (
-      opened,
-      found,
-      (
-        left,
-        (
-          made,
-          (entries_of c, makes),
-          record {
-            honest = closes.0.honest;
-            closes = λ o b s. closes.0.closes o b s tt;
-            crash = λ o l leaves. elim (closes.0.crash o l leaves) [
-              | inl before ↦ inl before
-              | inr adds ↦ inr (λ b s. adds b s tt)
-            ];
-            void = void_in c;
-            goes_on = λ o b s.
-                let carried = closes.2 o b s tt in
-                let same = entries_are c b s.sound laws.tells carried in
-                let above = above_from floor (option_map stamp_view c.stamp) (void_in c) b s.sound carried.stamp closes.1 in
-                record {
-                  asked = subst (λ last. IsVoidIfAny floor last (void_in c)) carried.stamp closes.1;
-                  stands = subst (λ entries. Stands h (with_all entries []) made) same
-                      (stands (rw same (laws.fit (void_in c) b s.sound above)));
-                  reaches = reaches_from laws floor (option_map stamp_view c.stamp) (void_in c) b s.sound closes.1 above;
-                  whole = λ whole.
-                      let stated = stated_from floor (option_map stamp_view c.stamp) (void_in c) b laws.states whole
-                      carried.stamp closes.1 in
-                      (laws.whole (void_in c) b whole above stated, laws.rising (void_in c) b whole stated);
-                };
-          },
-          other,
-        ),
-        closed,
-      ),
-    )
+pub continued_in : {D E : Type 0} (disk : Disk D) (held : Image) (other : Disk E) (floor : Option Floor) (c : Carried)
+    → Laws → IsClosedSo disk held floor (Ok c) → IsMadeOver other (entries_of c)
+    → IsContinuedOver disk held other floor
+continued_in disk held other floor c laws (opened, found, (left, closes, closed)) (made, stands, is_open, shut) = (
+  opened,
+  found,
+  (
+    left,
+    (
+      made,
+      record {
+        honest = closes.0.honest;
+        closes = λ o b s. closes.0.closes o b s tt;
+        leaves = λ o l leaves b s. closes.3 o l leaves b s;
+        opened = is_open;
+        void = void_in c;
+        goes_on = λ o b s.
+            let carried = closes.2 o b s in
+            let same = entries_are c b s.sound laws.tells carried in
+            let above = above_from floor (option_map stamp_view c.stamp) (void_in c) b s.sound carried.stamp closes.1 in
+            record {
+              asked = subst (λ last. IsVoidIfAny floor last (void_in c)) carried.stamp closes.1;
+              above = above;
+              stands = subst (λ entries. Stands (over_tables over_files) (with_all entries []) made) same
+                  (stands (rw same (laws.fit (void_in c) b s.sound above)));
+              reaches = reaches_from laws floor (option_map stamp_view c.stamp) (void_in c) b s.sound closes.1 above;
+              stated = λ whole. stated_from floor (option_map stamp_view c.stamp) (void_in c) b laws.states whole
+                  carried.stamp closes.1;
+            };
+      },
+      shut,
+    ),
+    closed,
+  ),
+)

@@ -1,16 +1,19 @@
 -- What is done in a database that is opened and closed again, and at a desk over it, where it is answered, and where it
 -- is refused.
 use Rattle.std.proofs.Common.{◌≡◌, ◌⊎◌, Result, Ok, Err, IfOk, IfErr, inl, inr, subst, sym}
-use Rattle.std.specs.Prelude.{OnErr, OnOk, IsOk}
+use Rattle.std.specs.Prelude.{OnErr}
 use Rattle.book.specs.declared.fault.StoreFault.{StoreFault}
 use Rattle.book.specs.declared.fault.StoreFault.TheVariants.{Backwards}
 use Rattle.book.specs.declared.standing.Standing.{Ghosts}
 use Rattle.desk.specs.CallContract.{DeskValue}
 use Rattle.desk.specs.Command.{Setting}
 use Rattle.operations.specs.DatabaseFaults.{IsOpeningFault}
-use Rattle.operations.specs.InDatabases.{IsDoneIn}
 use Rattle.operations.specs.Visits.{IsUnopened, IsUnvisited, IsVisited}
 use Rattle.operations.specs.declared.fault.OperationFault.{OperationFault}
+
+-- one was opened, this was done to it, and what that left was closed
+abbrev IsDoneIn : {B : Type 0} → (Opens Closes : B → Type 0) → (B → B → Type 0) → Type 0
+IsDoneIn {B} Opens Closes Does = (opened : B) × Opens opened × ((left : B) × Does opened left × Closes left)
 
 -- what is said of an answer, where there is one
 pub answered_in : {B : Type 0} (Opens Closes : B → Type 0) {A E : Type 0} (r : Result A E) (P : A → B → B → Type 0)

@@ -1,4 +1,6 @@
-pub mod CheckedStamps
+pub mod ExaminedStamps
+pub mod Explained
 pub mod FileStores
 pub mod GoingOn
 pub mod InDatabases
+pub mod PastRows

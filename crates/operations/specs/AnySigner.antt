@@ -3,8 +3,8 @@ use Rattle.std.specs.Prelude.{ℕ, List, Result}
 use Rattle.cms.specs.KeyedHash.{SignsByHash, SendsNothing, keyed_hash_algorithm}
 use Rattle.cms.specs.Signer.{AwaitsInTurn}
 use Rattle.cms.specs.declared.signer.SignerFault.{SignerFault}
-use Rattle.operations.specs.declared.any_signer.AnySigner.{AnySigner}
-use Rattle.operations.specs.declared.any_signer.AnySigner.TheVariants.{Keyed, Session, Reconnecting}
+use Rattle.operations.specs.declared.signers.AnySigner.{AnySigner}
+use Rattle.operations.specs.declared.signers.AnySigner.TheVariants.{Keyed, Session, Reconnecting}
 
 module _ {S K : Type 0} (signs : S → List ℕ → Result (List ℕ) SignerFault → S → Type 0)
     (signs_renewed : K → List ℕ → Result (List ℕ) SignerFault → K → Type 0) where

@@ -1,11 +1,11 @@
 -- What the trait of signers asks of the signer that was reached. Proofs, no definitions.
-use Rattle.std.proofs.Common.{◌≡◌, ℕ, List, [], ◌∷◌, ◌++◌, Result, refl, ap, ◌∙◌}
+use Rattle.std.proofs.Common.{ℕ, List, [], ◌∷◌, ◌++◌, Result, refl, ap, ◌∙◌}
 use Rattle.cms.specs.KeyedHash.{SignsByHash}
 use Rattle.cms.specs.Signer.{SignsEach}
 use Rattle.cms.specs.declared.signer.SignerFault.{SignerFault}
 use Rattle.operations.specs.AnySigner.{SignsAsAny, SendsAsAny, AwaitsAsAny}
-use Rattle.operations.specs.declared.any_signer.AnySigner.{AnySigner}
-use Rattle.operations.specs.declared.any_signer.AnySigner.TheVariants.{Keyed, Session, Reconnecting}
+use Rattle.operations.specs.declared.signers.AnySigner.{AnySigner}
+use Rattle.operations.specs.declared.signers.AnySigner.TheVariants.{Keyed, Session, Reconnecting}
 
 -- what is signed one after the other by one relation is so by each that follows from it
 each_as : {S T : Type 0} (signs : S → List ℕ → Result (List ℕ) SignerFault → S → Type 0)

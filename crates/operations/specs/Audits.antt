@@ -1,6 +1,6 @@
 -- What an audit writes.
 use Rattle.std.specs.Prelude.{◌≡◌, ◌≢◌, ◌⊎◌, ◌↔◌, ℕ, ◌<◌, Bool, true, false, List, [], ◌∷◌, ◌++◌, IfErr, IfOk, OnOk}
-use Rattle.std.specs.Prelude.{IsTrue, MatchResult, Option, Result, codes, if◌then◌else◌, length, take}
+use Rattle.std.specs.Prelude.{IsTrue, MatchResult, Option, None, Some, Result, codes, if◌then◌else◌, length, map, take}
 use Rattle.std.specs.Fmt.{decimal}
 use Rattle.std.specs.Io.KnownBytes.{Appends}
 use Rattle.std.specs.List.{flat_map}
@@ -19,64 +19,100 @@ use Rattle.book.specs.declared.standing.Standing.{Ghosts}
 use Rattle.book.specs.History.{History, stamps_between}
 use Rattle.book.specs.Identities.{identities}
 use Rattle.book.specs.Rights.{deposit_with_stamp}
-use Rattle.book.specs.Rows.{InstalledRow, StampRow}
+use Rattle.book.specs.Rows.{StampRow}
 use Rattle.book.specs.Stands.{OnlyLooks, Stands}
+use Rattle.book.specs.Values.{identity_view}
+use Rattle.judgement.specs.Judged.{IsJudgedBehind}
+use Rattle.judgement.specs.Readings.{evidence_in}
+use Rattle.judgement.specs.Texts.{judgement_text}
+use Rattle.judgement.specs.declared.judgement.Judgement.{Judgement}
+use Rattle.judgement.specs.declared.judgement.Judgement.TheVariants.{Given}
+use Rattle.operations.specs.Kept.{IsKept, rows_before}
 use Rattle.operations.specs.declared.audits.AuditFault.{AuditFault}
 use Rattle.operations.specs.declared.audits.AuditFault.TheVariants as fault
+use Rattle.operations.specs.declared.audits.Findings.{Findings}
 use Rattle.operations.specs.declared.audits.Inquiry.{Inquiry}
+use Rattle.operations.specs.declared.kept.Kept.{Kept}
 
 -- the extract of some stamps
 abbrev pub extract_of : List StampRow → List ℕ
 extract_of stamps = header_text ++ stamps_text stamps
 
--- what fails a check: the row of a serial number, or the deposit of that number
+-- stamps are looked at more closely than their extract wants
+abbrev pub IsExamining : Inquiry → Type 0
+IsExamining inquiry = (inquiry.check ≡ true) ⊎ (inquiry.judge ≡ true)
+
+-- what fails: the row of a serial number, or the deposit of that number; or how the row is judged, which isn't given by
+-- the rules
 pub data Failure : Type 0 where
   Row : ℕ → Failure
   Deposit : ℕ → Failure
+  Judged : ℕ → Judgement → Failure
 
 -- the line that tells of one
 abbrev pub failing_line : Failure → List ℕ
 failing_line (Row serial) = codes "row " ++ (decimal serial ++ codes " fails\n")
 failing_line (Deposit number) = codes "deposit " ++ (decimal number ++ codes " fails\n")
+failing_line (Judged serial judgement) =
+    codes "row " ++ (decimal serial ++ (codes " " ++ (judgement_text judgement ++ codes "\n")))
 
 abbrev pub failing_lines : List Failure → List ℕ
 failing_lines failures = flat_map failing_line failures
 
--- those of a serial number, by whether its row passes, and its deposit
-abbrev pub failures_of : ℕ → (row deposit : Bool) → List Failure
-failures_of serial row deposit =
-    (if row then [] else Row serial ∷ []) ++ (if deposit then [] else Deposit serial ∷ [])
+-- one of a serial number whose row is judged so, unless it is given by the rules, or taken as it stands
+abbrev pub judged_of : ℕ → Option Judgement → List Failure
+judged_of serial None = []
+judged_of serial (Some Given) = []
+judged_of serial (Some judgement) = Judged serial judgement ∷ []
 
--- These are the failures of stamps, in their order: a row passes whose octets say what it and these identities say, and
--- so does the deposit of a number that is intact, or isn't there.
-abbrev pub AreFailing : List InstalledRow → History → List StampRow → List Failure → Type 0
-AreFailing installed b [] failures = failures ≡ []
-AreFailing installed b (stamp ∷ stamps) failures =
-    (row : Bool)
-    × (deposit : Bool)
-    × (IsTrue row ↔ IsConsistent stamp installed)
-    × (IsTrue deposit ↔ IsIntact (deposit_with_stamp stamp.serial b))
+-- those of a serial number, by what is found of it
+abbrev pub failures_of : ℕ → Findings → List Failure
+failures_of serial found =
+    (if found.row then [] else Row serial ∷ [])
+    ++ ((if found.deposit then [] else Deposit serial ∷ []) ++ judged_of serial found.judged)
+
+-- What is found of a stamp behind the rows before it. Where stamps are checked, its row passes if its octets say what
+-- it and the identities say, and its deposit if that is intact, or isn't there. Where they are judged, it is judged by
+-- the rules of the policy file.
+pub record IsFound (inquiry : Inquiry) (b : History) (before : List StampRow) (stamp : StampRow) (found : Findings)
+    : Type 0 where
+  pub row : inquiry.check ≡ true → IsTrue found.row ↔ IsConsistent stamp (identities b)
+  pub deposit : inquiry.check ≡ true → IsTrue found.deposit ↔ IsIntact (deposit_with_stamp stamp.serial b)
+  pub unchecked : inquiry.check ≡ false → (found.row ≡ true) × (found.deposit ≡ true)
+  pub judged : inquiry.judge ≡ true
+      → IsJudgedBehind (evidence_in (policy_view inquiry.policy.now) b) before stamp found.judged
+  pub unjudged : inquiry.judge ≡ false → found.judged ≡ None
+
+-- these are the failures of stamps behind the rows before them, in their order
+abbrev pub AreFailing : Inquiry → History → (before stamps : List StampRow) → List Failure → Type 0
+AreFailing inquiry b before [] failures = failures ≡ []
+AreFailing inquiry b before (stamp ∷ stamps) failures =
+    (found : Findings)
+    × IsFound inquiry b before stamp found
     × ((others : List Failure)
-    × (failures ≡ failures_of stamp.serial row deposit ++ others)
-    × AreFailing installed b stamps others)
+    × (failures ≡ failures_of stamp.serial found ++ others)
+    × AreFailing inquiry b (before ++ stamp ∷ []) stamps others)
 
 -- a beginning of the text was written, and not all of it
 abbrev pub IsCutOff : Option (List ℕ) → Option (List ℕ) → List ℕ → Type 0
 IsCutOff old new text = (n : ℕ) × (n < length text) × Appends old new (take n text)
 
--- Each stamp of a history was checked with its deposit, and what fails is told; but where a write fails the stamps after
--- it aren't looked at.
-pub record Checks (installed : List InstalledRow) (b : History) (stamps : List StampRow) (old new : Option (List ℕ))
-    (agree : Bool)
-    : Type 0 where
-  pub checked : List StampRow
+-- Each stamp of the range was looked at behind these rows, as far as that is asked, and what fails is told; but where a
+-- write fails the stamps after it aren't looked at.
+pub record ExaminesBehind (inquiry : Inquiry) (b : History) (before : List StampRow) (old new : Option (List ℕ))
+    (agree : Bool) : Type 0 where
+  pub examined : List StampRow
   pub left : List StampRow
-  pub parts : stamps ≡ checked ++ left
+  pub parts : stamps_between inquiry.from inquiry.to b ≡ examined ++ left
   pub failures : List Failure
-  pub failing : AreFailing installed b checked failures
+  pub failing : AreFailing inquiry b before examined failures
   pub told : ((left ≡ []) × Appends old new (failing_lines failures)) ⊎ IsCutOff old new (failing_lines failures)
   pub agreed : agree ≡ true → (failures ≡ []) × (left ≡ [])
   pub failed : agree ≡ false → failures ≢ []
+
+-- behind all rows with lower serial numbers
+abbrev pub Examines : Inquiry → History → (old new : Option (List ℕ)) → Bool → Type 0
+Examines inquiry b old new agree = ExaminesBehind inquiry b (rows_before inquiry.from b) old new agree
 
 -- the lines of some failures were written, of none maybe
 abbrev pub TellsFailing : Option (List ℕ) → Option (List ℕ) → Type 0
@@ -99,11 +135,11 @@ BeginsExtract old new = (stamps : List StampRow) × (n : ℕ) × Appends old new
 abbrev pub IsExtractFault : AuditFault → Type 0
 IsExtractFault refused = (refusal : ExtractFault) × IsMet refusal × (refused ≡ fault.Extract refusal)
 
--- the check was refused
+-- the stamps can't be looked at
 abbrev pub IsCheckFault : AuditFault → Type 0
 IsCheckFault refused = (refused ≡ fault.Extract extract.Memory) ⊎ (refused ≡ fault.Store store.Database)
 
--- the book's count of its faults after a check that is refused so
+-- the book's count of its faults after that is refused so
 abbrev pub CountsFaults : {A : Type 0} → Result A ExtractFault → ℕ → ℕ → Type 0
 CountsFaults done before after = MatchResult done (λ _. after ≡ before) (λ refusal. after ≡ count_after refusal before)
 
@@ -129,12 +165,12 @@ ComesWhere inquiry refused =
     refusal
 
 -- What a refused audit leaves of its output and of what it tells: nothing; a beginning of an extract; or a whole one,
--- and the lines of what failed before the check was refused.
+-- and the lines of what failed before the stamps couldn't be looked at.
 abbrev pub Leaves : Inquiry → (out out' told told' : Option (List ℕ)) → AuditFault → Type 0
 Leaves inquiry out out' told told' refused =
     ((out' ≡ out) × (told' ≡ told))
     ⊎ ((IsExtractFault refused × Allows inquiry × BeginsExtract out out' × (told' ≡ told))
-    ⊎ ((inquiry.check ≡ true)
+    ⊎ (IsExamining inquiry
     × IsCheckFault refused
     × Allows inquiry
     × WritesExtract out out'
@@ -146,17 +182,23 @@ IsAudited inquiry out out' told told' done =
     IfOk done (λ agree. Allows inquiry
     × WritesExtract out out'
     × (agree ≡ true → told' ≡ told)
-    × (agree ≡ false → (inquiry.check ≡ true) × TellsSome told told'))
+    × (agree ≡ false → IsExamining inquiry × TellsSome told told'))
     × IfErr done (λ refused. ComesWhere inquiry refused × Leaves inquiry out out' told told' refused)
 
 -- An audit of a book: it changes nowhere but in its count of faults, and while it returns what was written, an answer
--- comes with the extract of each history that it stood for, and, where that is asked, the check of its stamps and
--- deposits.
+-- comes with the extract of each history that it stood for, and, where that is asked, with what fails of its stamps.
 pub record IsAuditOf {B : Type 0} (g : Ghosts B) (inquiry : Inquiry) (old new : B)
     (out out' told told' : Option (List ℕ)) (done : Result Bool AuditFault) : Type 0 where
   pub looks : OnlyLooks g old new
   pub whole : g.honest new → (b : History) → Stands g b old
       → OnOk done (Appends out out' (extract_text inquiry.from inquiry.to b))
-  pub checked : g.honest new → (b : History) → Stands g b old → inquiry.check ≡ true
-      → IfOk done (Checks (identities b) b (stamps_between inquiry.from inquiry.to b) told told')
+  pub examined : g.honest new → (b : History) → Stands g b old → IsExamining inquiry
+      → IfOk done (Examines inquiry b told told')
   pub faults : CountsAudit done (g.fault_count old) (g.fault_count new)
+
+-- ---- on the way
+
+-- what is kept is the history's, as far as the inquiry needs it, with what these rows say
+pub record Knows (inquiry : Inquiry) (b : History) (rows : List StampRow) (kept : Kept) : Type 0 where
+  pub installed : map identity_view kept.identities.items ≡ identities b
+  pub kept_is : inquiry.judge ≡ true → IsKept b rows kept

@@ -1,21 +1,28 @@
 -- How a history goes on in a new book: what is carried on from the old one, with which entries the new one begins, and
 -- how the old one is closed for tokens.
-use Rattle.std.specs.Prelude.{◌≡◌, ◌⊎◌, Bool, true, not, nat_lt, List, [], ◌∷◌, ◌++◌, map, filter, reverse}
-use Rattle.std.specs.Prelude.{Option, None, Some, option_map, if◌then◌else◌, Result, Ok, Err, IfOk, OnOk, OnErr}
-use Rattle.book.specs.Continuation.{Floor as Void, IsAbove, closed, continued, entry_if, holds_all, last_reservation}
-use Rattle.book.specs.Entries.{with_all, FitInTurn}
+use Rattle.std.specs.Prelude.{◌≡◌, ◌⊎◌, ℕ, ◌<◌, ◌≤◌, not, nat_lt, List, [], ◌∷◌, ◌++◌, map, filter, reverse}
+use Rattle.std.specs.Prelude.{Option, None, Some, option_map, if◌then◌else◌, Result, Ok, Err, OnOk, OnErr}
+use Rattle.std.specs.List.{Contains}
+use Rattle.book.specs.Continuation.{Floor as Void, IsAbove, IsAboveIfAny, closed, continued, entry_if, holds_all}
+use Rattle.book.specs.Continuation.{last_reservation}
 use Rattle.book.specs.History.{Entry, Reserved, Sealed, Calibrated, Held, Installed, History, HoldValue}
-use Rattle.book.specs.History.{InstalledValue, ReservationValue, greatest_serial, holds, last_gen_time}
-use Rattle.book.specs.History.{latest_calibration, stamp_of, token_of, first_of}
+use Rattle.book.specs.History.{ReservationValue, greatest_serial, holds, last_gen_time}
+use Rattle.book.specs.History.{latest_calibration, reservations, stamp_of, token_of, first_of}
 use Rattle.book.specs.Identities.{identities, identity_before, installed_as}
 use Rattle.book.specs.Rows.{InstalledRow, StampRow}
-use Rattle.book.specs.Sound.{Along}
+use Rattle.book.specs.Sound.{Along, IsSound}
 use Rattle.book.specs.Stands.{OnlyLooks, Stands}
 use Rattle.book.specs.Values.{calibration_option, hold_view, identity_view, stamp_view}
 use Rattle.book.specs.declared.fault.StoreFault.{StoreFault}
 use Rattle.book.specs.declared.standing.Standing.{Ghosts}
+use Rattle.desk.specs.Closed.{GivesNothingOut, StaysClosed}
+use Rattle.desk.specs.Command.{Command, Setting}
 use Rattle.desk.specs.Content.{IsSoundInFull}
-use Rattle.desk.specs.MachineRuns.{IsRising}
+use Rattle.desk.specs.Continuation.{IsStatedIfAny}
+use Rattle.desk.specs.Effects.{Effect}
+use Rattle.desk.specs.MachineRuns.{IsRising, Journey}
+use Rattle.desk.specs.MachineStep.{HasEffect}
+use Rattle.desk.specs.Outcome.{Outcome}
 use Rattle.operations.specs.DatabaseFaults.{IsOpeningFault}
 use Rattle.operations.specs.VoidStamp.{IsVoidIfAny, reserved_as, reserved_in_place, void_view}
 use Rattle.operations.specs.declared.carried.Carried.{Carried}
@@ -90,30 +97,22 @@ entries_of c =
 
 -- ---- the old book
 
--- While the book returns what was written, it is closed for tokens where this is answered: it holds what it held, with
--- a hold of all moments. After a refusal it stands for what it stood for, and a stop leaves the one or the other. Of
--- the histories that it may stand for, this is said of those that are known.
-pub record ClosesKnown {X A : Type 0} (g : Ghosts X) (Knows : History → Type 0) (old new : X)
-    (done : Result A StoreFault) : Type 0 where
-  pub honest : g.honest new → g.honest old
-  pub closes : g.honest new → (b : History) → Stands g b old → Knows b → OnOk done (Stands g (closed b) new)
-  pub kept : (b : History) → Stands g b old → OnErr done (Stands g b new)
-  pub crash : g.honest new → (left : g.Left) → g.leaves new left
-      → g.leaves old left ⊎ ((b : History) → Stands g b old → Knows b → g.holds left (closed b))
+-- While the book returns what was written, it is closed for tokens where this is answered: it holds what it held,
+-- with a hold of all moments. After a refusal it stands for what it stood for, or for that. A stop leaves what it could
+-- leave before, or that. Of the histories that it may stand for, this is said of those that are known.
+pub record Closes {X A E : Type 0} (g : Ghosts X) (Knows : History → Type 0) (old new : X) (done : Result A E) : Type 0
+  where
+    pub honest : g.honest new → g.honest old
+    pub closes : g.honest new → (b : History) → Stands g b old → Knows b → OnOk done (Stands g (closed b) new)
+    pub kept : g.honest new → (b : History) → Stands g b old → Knows b
+        → OnErr done (Stands g b new ⊎ Stands g (closed b) new)
+    pub crash : g.honest new → (left : g.Left) → g.leaves new left
+        → g.leaves old left ⊎ ((b : History) → Stands g b old → Knows b → g.holds left (closed b))
 
--- it is closed for tokens
-pub record IsClosedKnown {X : Type 0} (g : Ghosts X) (Knows : History → Type 0) (old new : X) : Type 0 where
-  pub honest : g.honest new → g.honest old
-  pub closes : g.honest new → (b : History) → Stands g b old → Knows b → Stands g (closed b) new
-  pub crash : g.honest new → (left : g.Left) → g.leaves new left
-      → g.leaves old left ⊎ ((b : History) → Stands g b old → Knows b → g.holds left (closed b))
-
--- it is closed for tokens, or stands for what it stood for
-pub record MayBeClosed {X : Type 0} (g : Ghosts X) (Knows : History → Type 0) (old new : X) : Type 0 where
-  pub honest : g.honest new → g.honest old
-  pub stands : g.honest new → (b : History) → Stands g b old → Knows b → Stands g b new ⊎ Stands g (closed b) new
-  pub crash : g.honest new → (left : g.Left) → g.leaves new left
-      → g.leaves old left ⊎ ((b : History) → Stands g b old → Knows b → g.holds left (closed b))
+-- each thing that a stop leaves holds the history closed
+abbrev pub LeavesClosed : {X : Type 0} → Ghosts X → X → X → Type 0
+LeavesClosed g old new =
+    g.honest new → (left : g.Left) → g.leaves new left → (b : History) → Stands g b old → g.holds left (closed b)
 
 -- no void stamp with this serial number and genTime comes after all of the history
 abbrev pub IsBelow : Option Floor → History → Type 0
@@ -135,20 +134,22 @@ HasBegun (Unclosed fault) = ⊥
 HasBegun NotAfter = ⊥
 HasBegun (Unfinished fault) = Unit {0}
 
-module _ {X : Type 0} (g : Ghosts X) (Knows : History → Type 0) (floor : Option Floor) (old new : X) where
+module _ {X : Type 0} (g : Ghosts X) (floor : Option Floor) (old new : X) where
   -- a book that was opened isn't closed, by the refusal
   abbrev pub IsRefused : ContinuationFault → Type 0
   IsRefused (Unopened fault) = ⊥
   IsRefused (Unclosed fault) = IsOpeningFault fault × OnlyLooks g old new
   IsRefused NotAfter =
-      OnlyLooks g old new × (g.honest new → (b : History) → Stands g b old → Knows b → IsBelow floor b)
-  IsRefused (Unfinished fault) = IsOpeningFault fault × MayBeClosed g Knows old new
+      OnlyLooks g old new × (g.honest new → (b : History) → Stands g b old → IsBelow floor b)
+  IsRefused (Unfinished fault) =
+      IsOpeningFault fault × Closes {A = Carried} g (λ b. Unit {0}) old new (Err fault)
 
   -- it is closed, and this is what its history has, above what is asked for
   abbrev pub Carries : Result Carried ContinuationFault → Type 0
   Carries (Ok c) =
-      IsClosedKnown g Knows old new × IsAskedFor floor c
-      × (g.honest new → (b : History) → Stands g b old → Knows b → IsCarried c b)
+      Closes {E = StoreFault} g (λ b. Unit {0}) old new (Ok c) × IsAskedFor floor c
+      × (g.honest new → (b : History) → Stands g b old → IsCarried c b)
+      × LeavesClosed g old new
   Carries (Err fault) = IsRefused fault
 
 -- ---- both books
@@ -162,22 +163,41 @@ Reaches (Some floor) b c =
     × (last_gen_time c ≡ Some floor.gen_time)
     × (token_of floor.serial c ≡ None)
 
--- A book stands for the history that goes on from b, which is sound in full where b is.
+-- A book stands for the history that goes on from b.
 pub record StandsOn {Y : Type 0} (h : Ghosts Y) (floor : Option Floor) (void : Option Void) (b : History) (new : Y)
     : Type 0 where
   -- a void stamp comes in place of the last one exactly where that is asked for, for the request of that one
   pub asked : IsVoidIfAny floor (last_stamp_of b) void
+  -- it comes after all of b, and states what it has to where b is sound in full: as journeys go on
+  pub above : IsAboveIfAny void b
+  pub stated : IsSoundInFull b → IsStatedIfAny void b
   pub stands : Stands h (continued void b) new
   pub reaches : Reaches floor b (continued void b)
-  pub whole : IsSoundInFull b → IsSoundInFull (continued void b) × Along IsRising (continued void b)
 
--- The old book is closed for tokens: a stop leaves it as it was, or closed. A new one was made, which stands for the
+-- The old book is closed for tokens, and a stop leaves nothing else. A new one was made, and is open. It stands for the
 -- history that goes on from each that the old one stood for, above what is asked for.
 pub record Continues {X Y : Type 0} (g : Ghosts X) (h : Ghosts Y) (floor : Option Floor) (old left : X) (new : Y)
     : Type 0 where
   pub honest : g.honest left → g.honest old
   pub closes : g.honest left → (b : History) → Stands g b old → Stands g (closed b) left
-  pub crash : g.honest left → (l : g.Left) → g.leaves left l
-      → g.leaves old l ⊎ ((b : History) → Stands g b old → g.holds l (closed b))
+  pub leaves : g.honest left → (l : g.Left) → g.leaves left l → (b : History) → Stands g b old → g.holds l (closed b)
+  pub opened : h.honest new → h.is_open new
   pub void : Option Void
   pub goes_on : g.honest left → (b : History) → Stands g b old → StandsOn h floor void b new
+
+-- What a journey to b finds once it has gone on: the old book is closed for good, and so is each thing that a stop
+-- leaves of it; it goes on to a history for which the new one stands, and above all of b.
+pub record GoesOver {X Y : Type 0} (g : Ghosts X) (h : Ghosts Y) (b : History) (left : X) (new : Y) : Type 0 where
+  pub closes : Stands g (closed b) left
+  pub leaves : (l : g.Left) → g.leaves left l → g.holds l (closed b)
+  pub nothing : (s : Setting) (c : Command) (o : Outcome) (e : Effect) → HasEffect s c o (closed b) e
+      → GivesNothingOut c e
+  pub stays : (s : Setting) (c : Command) (o : Outcome) (e : Effect) (k : ℕ) → HasEffect s c o (closed b) e
+      → StaysClosed k e (closed b)
+  pub history : History
+  pub journey : Journey history None []
+  pub stands : Stands h history new
+  pub opened : h.honest new → h.is_open new
+  pub rises : (added : List Entry) → IsSound (added ++ history) → Along IsRising (added ++ history)
+      → (before later : ReservationValue) → Contains (reservations b) before → Contains (reservations added) later
+      → (before.serial < later.serial) × (before.gen_time ≤ later.gen_time)

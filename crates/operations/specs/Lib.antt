@@ -2,8 +2,9 @@ pub mod Addition
 pub mod Audits
 pub mod Continuation
 pub mod DatabaseFaults
-pub mod InDatabases
+pub mod Explanations
 pub mod Judged
+pub mod Kept
 pub mod Machine
 pub mod OverFiles
 pub mod AnySigner

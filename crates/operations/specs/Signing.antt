@@ -1,12 +1,12 @@
 -- Who signs.
 use Rattle.std.specs.Prelude.{◌≡◌, ℕ, List}
 use Rattle.cms.specs.KeyedHash.{keyed_hash_algorithm}
-use Rattle.operations.specs.declared.any_signer.AnySigner.{AnySigner}
-use Rattle.operations.specs.declared.any_signer.AnySigner.TheVariants as any
-use Rattle.operations.specs.declared.signing.Renewal.{Renewal}
-use Rattle.operations.specs.declared.signing.Renewal.TheVariants.{Never, AfterLoss}
-use Rattle.operations.specs.declared.signing.Signing.{Signing}
-use Rattle.operations.specs.declared.signing.Signing.TheVariants.{Keyed, Session}
+use Rattle.operations.specs.declared.signers.AnySigner.{AnySigner}
+use Rattle.operations.specs.declared.signers.AnySigner.TheVariants as any
+use Rattle.operations.specs.declared.host.Renewal.{Renewal}
+use Rattle.operations.specs.declared.host.Renewal.TheVariants.{Never, AfterLoss}
+use Rattle.operations.specs.declared.host.Signing.{Signing}
+use Rattle.operations.specs.declared.host.Signing.TheVariants.{Keyed, Session}
 
 -- the encoding of the AlgorithmIdentifier of the signatures
 abbrev pub algorithm_of : Signing → List ℕ

@@ -1,6 +1,8 @@
 -- A void stamp in place of a history's last one.
-use Rattle.std.specs.Prelude.{◌≡◌, ◌⊎◌, ℕ, ◌<◌, ◌≤◌, List, Option, Some, None}
+use Rattle.std.specs.Prelude.{◌≡◌, ◌⊎◌, ℕ, ◌<◌, ◌≤◌, List, length, Option, Some, None}
 use Rattle.gentime.specs.GenTime.{last_moment}
+use Rattle.tsp.specs.Request.{RequestValue, Spells}
+use Rattle.tsp.specs.Tst.{SpellsTst, TstValue}
 use Rattle.book.specs.Continuation.{Floor as Void, reserved_as as reserved_above}
 use Rattle.book.specs.History.{ReservationValue}
 use Rattle.book.specs.Rows.{StampRow}
@@ -47,7 +49,18 @@ abbrev pub IsNoneAfter : Floor → Option StampRow → Type 0
 IsNoneAfter floor None = Unit {0}
 IsNoneAfter floor (Some last) = ComesAfter floor last → ⊥
 
--- and it is asked for
+-- the last stamp's request or TSTInfo can't be read
+abbrev pub IsUnreadable : StampRow → Type 0
+IsUnreadable last =
+    ((request : RequestValue) → Spells last.request request → length last.request ≤ 65536 → ⊥)
+    ⊎ ((tst : TstValue) → SpellsTst last.tst tst → ⊥)
+
+-- and it comes after that
+abbrev pub IsUnreadAfter : Floor → Option StampRow → Type 0
+IsUnreadAfter floor None = ⊥
+IsUnreadAfter floor (Some last) = ComesAfter floor last × IsUnreadable last
+
+-- it doesn't, or there is none, and it is asked for
 abbrev pub IsNoneAfterIfAny : Option Floor → Option StampRow → Type 0
 IsNoneAfterIfAny None last = ⊥
 IsNoneAfterIfAny (Some floor) last = IsNoneAfter floor last

@@ -4,12 +4,10 @@ ghost use Rattle.book.specs.Entries.{Appends};
 ghost use Rattle.book.specs.History.{History};
 ghost use Rattle.book.specs.Stands.{LeavesAsBefore, Stands};
 ghost use Rattle.operations.specs.Addition.{IsAdded, IsAdditionFault, IsBefore, entry_of, number_of};
-ghost use Rattle.operations.specs.OverFiles.{IsAddedOver};
+ghost use Rattle.operations.specs.OverFiles.{IsDoneOver};
 
-use crate::database::Database;
-use crate::database_files::DatabaseFiles;
-use crate::lifecycle::perform_at;
-use crate::operation::Operation;
+use crate::database::{Database, DatabaseFiles};
+use crate::operation::{Operation, perform_at};
 use book::{Book, Calibration, Hold, StoreFault};
 use std::alloc::Global;
 
@@ -74,12 +72,13 @@ pub fn add<F: DatabaseFiles>(
 ) -> Result<u64, StoreFault>
     // Whatever the files hold: it is added to the store that was opened over them, nothing else is done to that, and it
     // is closed.
-    ensures added { IfOk result (λ _. IsAddedOver F.Disk.Disk F.held addition.now result) }
-    ensures backwards { result ≡ Err StoreFault.Backwards
-        → IsAddedOver F.Disk.Disk F.held addition.now result }
+    ensures added { IfOk result (λ _. IsDoneOver F.Disk.Disk F.held (λ g opened left.
+        IsAdded g addition.now opened left result)) }
+    ensures backwards { result ≡ Err StoreFault.Backwards → IsDoneOver F.Disk.Disk F.held (λ g opened left.
+        IsAdded g addition.now opened left result) }
     // Where it is refused, no store was opened, by that refusal, or the one that was opened refused it.
     ensures refused { IfErr result (λ fault. F.refuses database.entry.files database.entry.path.now fault
-        ⊎ IsAddedOver F.Disk.Disk F.held addition.now result) }
+        ⊎ IsDoneOver F.Disk.Disk F.held (λ g opened left. IsAdded g addition.now opened left result)) }
     ensures refusals { IfErr result (λ e. (e ≡ StoreFault.Memory)
         ⊎ ((e ≡ StoreFault.Database) ⊎ ((e ≡ StoreFault.NotOurs) ⊎ (e ≡ StoreFault.Backwards)))) }
 {

@@ -1,28 +1,32 @@
-//! How the stamps that the database at a path keeps are extracted and checked.
-ghost use Rattle.std.specs.Prelude.{◌≡◌, ◌⊎◌, ◌↔◌, true, false, map, IfOk, IfErr, IsTrue, OnOk, OnErr};
-ghost use Rattle.std.specs.Prelude.{◌++◌, ◌&&◌, string_bytes};
+//! How the stamps that the database at a path keeps are extracted, checked, and judged again.
+ghost use Rattle.std.specs.Prelude.{◌≡◌, ◌≢◌, ◌⊎◌, ◌↔◌, true, false, IfOk, IfErr, IsTrue, OnOk, OnErr};
+ghost use Rattle.std.specs.Prelude.{◌++◌, ◌∷◌, ℕ, [], List, None, if◌then◌else◌, option_map, string_bytes};
+ghost use Rattle.std.specs.Option.{option_to_list};
 ghost use Rattle.std.specs.Io.KnownBytes.{Appends};
 ghost use Rattle.audit.specs.Extract.{extract_text};
 ghost use Rattle.audit.specs.Intact.{IsIntact};
-ghost use Rattle.book.specs.History.{History, stamps_between};
-ghost use Rattle.book.specs.Identities.{identities};
+ghost use Rattle.book.specs.History.{History};
 ghost use Rattle.book.specs.Rights.{deposit_with_stamp};
+ghost use Rattle.book.specs.Rows.{StampRow};
 ghost use Rattle.book.specs.Stands.{OnlyLooks, Stands};
-ghost use Rattle.book.specs.Values.{identity_view};
-ghost use Rattle.operations.specs.Audits.{Allows, BeginsExtract, Checks, ComesWhere, CountsAudit, CountsFaults};
-ghost use Rattle.operations.specs.Audits.{IsCutOff, IsExtractFault};
+ghost use Rattle.book.specs.Values.{stamp_view};
+ghost use Rattle.judgement.specs.Judged.{IsJudgedBehind};
+ghost use Rattle.judgement.specs.Readings.{evidence_in};
+ghost use Rattle.operations.specs.Audits.{Allows, BeginsExtract, ComesWhere, CountsAudit, CountsFaults, Examines};
+ghost use Rattle.operations.specs.Audits.{ExaminesBehind, IsCutOff, IsExamining, IsExtractFault, IsFound, Knows};
 ghost use Rattle.operations.specs.declared.audits.AuditFault.TheVariants.{Extract, Store};
 ghost use Rattle.operations.specs.Audits.{IsAudited, IsAuditOf, Leaves, TellsFailing, TellsSome, WritesExtract};
-ghost use Rattle.operations.specs.Audits.{Deposit, Row, failing_line, failing_lines, failures_of};
-ghost use Rattle.operations.specs.InDatabases.{IsUnopenedAs};
-ghost use Rattle.operations.specs.OverFiles.{IsAuditedOver};
+ghost use Rattle.operations.specs.Audits.{Deposit, Judged, Row, failing_line, failing_lines, failures_of, judged_of};
+ghost use Rattle.operations.specs.Kept.{rows_before};
+ghost use Rattle.operations.specs.OverFiles.{IsAuditedOver, IsUnopenedAs};
+ghost use Rattle.policy.specs.View.{policy_view};
 
-use crate::database::Database;
-use crate::database_files::DatabaseFiles;
-use crate::lifecycle::perform_at;
-use crate::operation::Operation;
+use crate::database::{Database, DatabaseFiles};
+use crate::kept::{Kept, kept_before};
+use crate::operation::{Operation, perform_at};
 use audit::{ExtractFault, check_deposit, check_row, extract, write_octets};
-use book::{Book, IdentityRow, StoreFault};
+use book::{Book, Stamp, StoreFault};
+use judgement::{Judgement, Past};
 use policy::{Account, Policy};
 use std::alloc::{AllocError, Global};
 use std::io::Write;
@@ -40,14 +44,16 @@ pub struct Inquiry<'a> {
     pub to: u64,
     /// Whether each stamp is checked as well, with its deposit.
     pub check: bool,
+    /// Whether each stamp is judged again as well, by the rules of the policy file.
+    pub judge: bool,
 }
 
-/// Why there is no extract, or no check of it.
+/// Why there is no extract, or its stamps can't be looked at.
 #[derive(Clone, Copy)]
 pub enum AuditFault {
     /// The database refused, or isn't the counter's.
     Store(StoreFault),
-    /// The extract is refused, or memory ran out over the check.
+    /// The extract is refused, or memory ran out over its stamps.
     Extract(ExtractFault),
 }
 
@@ -90,9 +96,9 @@ impl<O: Write, E: Write> Operation<O, E> for Inquiry<'_> {
 }
 
 /// Writes the extract of the stamps that the database keeps, as `audit::extract` does, and then, where that is asked,
-/// checks each stamp as `check_stamps` does: whether nothing fails. Refused with `Store` where the database can't be
-/// opened, and with `Extract` as `audit::extract`; nothing is checked then. Where the check is refused it is `Extract`
-/// for want of memory, and else `Store`; the whole extract is written then.
+/// examines each stamp as `examine_stamps` does: whether nothing fails. Refused with `Store` where the database can't
+/// be opened, and with `Extract` as `audit::extract`; no stamp is examined then. Where examining them is refused it is
+/// `Extract` for want of memory, and else `Store`; the whole extract is written then.
 pub fn audit<F: DatabaseFiles, O: Write, E: Write>(
     alloc: Global,
     database: Database<'_, F>,
@@ -114,7 +120,7 @@ pub fn audit<F: DatabaseFiles, O: Write, E: Write>(
         (E.contents errors.old) (E.contents errors.new) result) }
     ensures agreed { IfOk result (λ agree. agree ≡ true → E.contents errors.new ≡ E.contents errors.old) }
     ensures failed { IfOk result (λ agree. agree ≡ false
-        → (inquiry.now.check ≡ true) × TellsSome (E.contents errors.old) (E.contents errors.new)) }
+        → IsExamining inquiry.now × TellsSome (E.contents errors.old) (E.contents errors.new)) }
     ensures comes { IfErr result (ComesWhere inquiry.now) }
     ensures refused { IfErr result (Leaves inquiry.now (O.contents output.old) (O.contents output.new)
         (E.contents errors.old) (E.contents errors.new)) }
@@ -122,7 +128,7 @@ pub fn audit<F: DatabaseFiles, O: Write, E: Write>(
     perform_at(alloc, database, *inquiry, output, errors)?
 }
 
-/// Writes the extract of a book, and then checks its stamps where that is asked.
+/// Writes the extract of a book, and then examines its stamps where that is asked.
 fn audit_book<B: Book + Drop, O: Write, E: Write>(
     alloc: Global,
     book: &mut B,
@@ -133,29 +139,35 @@ fn audit_book<B: Book + Drop, O: Write, E: Write>(
     ensures looks { OnlyLooks B.Standing book.old book.new }
     ensures whole { B.honest book.new → (b : History) → Stands B.Standing b book.old → OnOk result (Appends
         (O.contents output.old) (O.contents output.new) (extract_text inquiry.now.from inquiry.now.to b)) }
-    ensures checked { B.honest book.new → (b : History) → Stands B.Standing b book.old → inquiry.now.check ≡ true
-        → IfOk result (Checks (identities b) b (stamps_between inquiry.now.from inquiry.now.to b)
-        (E.contents errors.old) (E.contents errors.new)) }
+    ensures examined { B.honest book.new → (b : History) → Stands B.Standing b book.old → IsExamining inquiry.now
+        → IfOk result (Examines inquiry.now b (E.contents errors.old) (E.contents errors.new)) }
     ensures allowed { IfOk result (λ _. Allows inquiry.now) }
     ensures extracted { OnOk result (WritesExtract (O.contents output.old) (O.contents output.new)) }
     ensures agreed { IfOk result (λ agree. agree ≡ true → E.contents errors.new ≡ E.contents errors.old) }
     ensures failed { IfOk result (λ agree. agree ≡ false
-        → (inquiry.now.check ≡ true) × TellsSome (E.contents errors.old) (E.contents errors.new)) }
+        → IsExamining inquiry.now × TellsSome (E.contents errors.old) (E.contents errors.new)) }
     ensures comes { IfErr result (ComesWhere inquiry.now) }
     ensures refused { IfErr result (Leaves inquiry.now (O.contents output.old) (O.contents output.new)
         (E.contents errors.old) (E.contents errors.new)) }
     ensures faults { CountsAudit result (B.fault_count book.old) (B.fault_count book.new) }
 {
     write_extract(alloc, book, inquiry, output)?;
-    if !inquiry.check {
+    if !is_examining(inquiry) {
         return Ok(true);
     }
-    match check_stamps(alloc, book, inquiry.from, inquiry.to, errors) {
+    match examine_stamps(alloc, book, inquiry, errors) {
         Ok(agree) => Ok(agree),
         Err(ExtractFault::Memory) => Err(AuditFault::Extract(ExtractFault::Memory)),
         // No other refusal of a walk over stamps is told than the database's.
         Err(_) => Err(AuditFault::Store(StoreFault::Database)),
     }
+}
+
+/// Whether stamps are looked at more closely than their extract wants.
+fn is_examining(inquiry: &Inquiry<'_>) -> bool
+    ensures { IsTrue result ↔ IsExamining inquiry.now }
+{
+    inquiry.check || inquiry.judge
 }
 
 /// Writes the extract of a book, and has the output send what it keeps.
@@ -189,22 +201,28 @@ fn write_extract<B: Book + Drop, O: Write>(
         .or(Err(AuditFault::Extract(ExtractFault::Write)))
 }
 
-/// Checks each stamp of the range from its octets, and writes a line `row N fails` for each whose octets don't say what
-/// its row and the identity of its serial number say, N being that number, and `deposit N fails` where its deposit isn't
-/// what was stamped: whether nothing fails. Where a line can't be written the stamps after it aren't looked at. Refused
-/// with `Memory` and `Store`, where they are met; the lines that were written stand. The book changes nowhere, and no
-/// stamp is kept.
-pub fn check_stamps<B: Book + Drop, E: Write>(
+/// Examines each stamp of the inquiry's range, void ones too, and writes a line for each thing that fails: whether
+/// nothing does. N is the stamp's serial number.
+///
+/// A check writes `row N fails` where the stamp's octets don't say what its row and the identity of its serial number
+/// say, and `deposit N fails` where its deposit isn't what was stamped. A judgement is by the rules of the inquiry's
+/// policy file, and by all rows with lower numbers, those before the range too: `row N isn't given by these rules: rule
+/// R` names the first rule that fails under the reading of the clock that comes furthest, and ends with `text` where no
+/// rule fails, but the row, or the TSTInfo in it, is another. `row N may have been held` stands apart: the stamp would
+/// be given if its moment hadn't been held, by a hold that may have been added later. That fails too, since it isn't
+/// certain. A first row that isn't number 1 was carried on from another database, and is taken as it stands.
+///
+/// Where a line can't be written the stamps after it aren't looked at. Refused with `Memory` and `Store`, where they
+/// are met; the lines that were written stand. The book changes nowhere, and no stamp is kept.
+pub fn examine_stamps<B: Book + Drop, E: Write>(
     alloc: Global,
     book: &mut B,
-    from: u64,
-    to: u64,
+    inquiry: &Inquiry<'_>,
     errors: &mut E,
 ) -> Result<bool, ExtractFault>
     ensures looks { OnlyLooks B.Standing book.old book.new }
-    ensures checked { B.honest book.new → (b : History) → Stands B.Standing b book.old
-        → IfOk result (Checks (identities b) b (stamps_between from to b) (E.contents errors.old)
-        (E.contents errors.new)) }
+    ensures examined { B.honest book.new → (b : History) → Stands B.Standing b book.old
+        → IfOk result (Examines inquiry.now b (E.contents errors.old) (E.contents errors.new)) }
     ensures agreed { IfOk result (λ agree. agree ≡ true → E.contents errors.new ≡ E.contents errors.old) }
     ensures failed { IfOk result (λ agree. agree ≡ false
         → TellsSome (E.contents errors.old) (E.contents errors.new)) }
@@ -212,30 +230,46 @@ pub fn check_stamps<B: Book + Drop, E: Write>(
     ensures refusals { IfErr result (λ e. (e ≡ ExtractFault.Memory) ⊎ (e ≡ ExtractFault.Store)) }
     ensures faults { CountsFaults result (B.fault_count book.old) (B.fault_count book.new) }
 {
-    let identities = book.identities()?;
-    let range = SerialRange { from, to };
-    check_against(alloc, book, identities.as_slice(), range, errors)
+    let mut kept = kept_for(alloc, book, inquiry)?;
+    examine_each(alloc, book, inquiry, &mut kept, errors)
 }
 
-/// Serial numbers from the first to the last.
-#[derive(Clone, Copy)]
-struct SerialRange {
-    from: u64,
-    to: u64,
-}
-
-/// Checks the stamps of a range against the identities that were installed, which are given by number.
-fn check_against<B: Book + Drop, E: Write>(
+/// What the inquiry's stamps are examined by: no more than the identities, where they aren't judged.
+fn kept_for<B: Book>(
     alloc: Global,
     book: &mut B,
-    identities: &[IdentityRow],
-    range: SerialRange,
+    inquiry: &Inquiry<'_>,
+) -> Result<Kept, ExtractFault>
+    ensures looks { OnlyLooks B.Standing book.old book.new }
+    ensures value { B.honest book.new → (b : History) → Stands B.Standing b book.old
+        → IfOk result (Knows inquiry.now b (rows_before inquiry.now.from b)) }
+    ensures refusals { IfErr result (λ e. (e ≡ ExtractFault.Memory) ⊎ (e ≡ ExtractFault.Store)) }
+    ensures faults { CountsFaults result (B.fault_count book.old) (B.fault_count book.new) }
+{
+    if inquiry.judge {
+        return kept_before(alloc, book, inquiry.from);
+    }
+    let identities = book.identities()?;
+    Ok(Kept {
+        calibrations: Vec::new(alloc),
+        holds: Vec::new(alloc),
+        identities,
+        past: Past::new(alloc),
+    })
+}
+
+/// Examines the stamps of the inquiry's range behind the rows that are known.
+fn examine_each<B: Book + Drop, E: Write>(
+    alloc: Global,
+    book: &mut B,
+    inquiry: &Inquiry<'_>,
+    kept: &mut Kept,
     errors: &mut E,
 ) -> Result<bool, ExtractFault>
     ensures looks { OnlyLooks B.Standing book.old book.new }
-    ensures checked { B.honest book.new → (b : History) → Stands B.Standing b book.old
-        → IfOk result (Checks (map identity_view identities.now) b (stamps_between range.from range.to b)
-        (E.contents errors.old) (E.contents errors.new)) }
+    ensures examined { B.honest book.new → (b : History) → Stands B.Standing b book.old → (before : List StampRow)
+        → Knows inquiry.now b before kept.old
+        → IfOk result (ExaminesBehind inquiry.now b before (E.contents errors.old) (E.contents errors.new)) }
     ensures agreed { IfOk result (λ agree. agree ≡ true → E.contents errors.new ≡ E.contents errors.old) }
     ensures failed { IfOk result (λ agree. agree ≡ false
         → TellsSome (E.contents errors.old) (E.contents errors.new)) }
@@ -244,14 +278,13 @@ fn check_against<B: Book + Drop, E: Write>(
     ensures faults { CountsFaults result (B.fault_count book.old) (B.fault_count book.new) }
 {
     let mut agree = true;
-    let mut from = range.from;
-    while let Some(stamp) = book.next_stamp(from, range.to)? {
-        let row = check_row(&stamp, identities)?;
-        let deposit = is_intact(book, stamp.serial)?;
-        let passes = are_both(row, deposit);
-        if !passes {
+    let mut from = inquiry.from;
+    while let Some(stamp) = book.next_stamp(from, inquiry.to)? {
+        let found = examine(book, inquiry, kept, &stamp)?;
+        let failing = is_failing(stamp.serial, &found);
+        if failing {
             agree = false;
-            if !tell(alloc, stamp.serial, row, deposit, errors)? {
+            if !tell(alloc, stamp.serial, &found, errors)? {
                 return Ok(false);
             }
         }
@@ -260,10 +293,78 @@ fn check_against<B: Book + Drop, E: Write>(
     Ok(agree)
 }
 
-fn are_both(one: bool, other: bool) -> bool
-    ensures { result ≡ (one && other) }
+/// What is found of a stamp: whether its row passes, and its deposit, and how it is judged.
+#[derive(Clone, Copy)]
+struct Findings {
+    /// Whether its octets say what its row says; true where that isn't checked.
+    row: bool,
+    /// Whether its deposit is intact, or isn't there; true where that isn't checked.
+    deposit: bool,
+    /// How it is judged, unless it isn't, or is taken as it stands.
+    judged: Option<Judgement>,
+}
+
+/// What is found of the stamp that follows the rows which are known; its own is one of them from now on.
+fn examine<B: Book>(
+    book: &mut B,
+    inquiry: &Inquiry<'_>,
+    kept: &mut Kept,
+    stamp: &Stamp,
+) -> Result<Findings, ExtractFault>
+    ensures looks { OnlyLooks B.Standing book.old book.new }
+    ensures found { B.honest book.new → (b : History) → Stands B.Standing b book.old → (rows : List StampRow)
+        → Knows inquiry.now b rows kept.old
+        → IfOk result (λ found. IsFound inquiry.now b rows (stamp_view stamp.now) found
+        × Knows inquiry.now b (rows ++ stamp_view stamp.now ∷ []) kept.new) }
+    ensures refusals { IfErr result (λ e. (e ≡ ExtractFault.Memory) ⊎ (e ≡ ExtractFault.Store)) }
+    ensures faults { CountsFaults result (B.fault_count book.old) (B.fault_count book.new) }
 {
-    one && other
+    let judged = judge_next(inquiry, kept, stamp)?;
+    if !inquiry.check {
+        return Ok(Findings {
+            row: true,
+            deposit: true,
+            judged,
+        });
+    }
+    let row = check_row(stamp, kept.identities.as_slice())?;
+    let deposit = is_intact(book, stamp.serial)?;
+    Ok(Findings {
+        row,
+        deposit,
+        judged,
+    })
+}
+
+/// How the stamp that follows the rows which are known is judged, where that is asked; it is one of them then.
+fn judge_next(
+    inquiry: &Inquiry<'_>,
+    kept: &mut Kept,
+    stamp: &Stamp,
+) -> Result<Option<Judgement>, ExtractFault>
+    ensures judged { (b : History) (rows : List StampRow) → Knows inquiry.now b rows kept.old
+        → IfOk result (λ judged. (inquiry.now.judge ≡ true
+        → IsJudgedBehind (evidence_in (policy_view inquiry.now.policy.now) b) rows (stamp_view stamp.now) judged)
+        × Knows inquiry.now b (rows ++ stamp_view stamp.now ∷ []) kept.new) }
+    ensures unjudged { inquiry.now.judge ≡ false → IfOk result (λ judged. judged ≡ None) }
+    ensures identities { kept.new.identities ≡ kept.old.identities }
+    ensures refusals { IfErr result (λ e. e ≡ ExtractFault.Memory) }
+{
+    if !inquiry.judge {
+        return Ok(None);
+    }
+    kept.judge_next(inquiry.policy, stamp)
+}
+
+/// Whether something fails of what is found.
+fn is_failing(serial: u64, found: &Findings) -> bool
+    ensures some { result ≡ true → failures_of serial found.now ≢ [] }
+    ensures none { result ≡ false → failures_of serial found.now ≡ [] }
+{
+    match found.judged {
+        None | Some(Judgement::Given) => !found.row || !found.deposit,
+        Some(_) => true,
+    }
 }
 
 /// Whether the deposit of a number is intact, or isn't there.
@@ -280,35 +381,45 @@ fn is_intact<B: Book>(book: &mut B, number: u64) -> Result<bool, ExtractFault>
     }
 }
 
-/// Writes the lines of what fails of a serial number, its row, its deposit or both: whether all of them is written.
+/// Writes the lines of what fails of a serial number: whether all of them is written.
 fn tell<E: Write>(
     alloc: Global,
     serial: u64,
-    row: bool,
-    deposit: bool,
+    found: &Findings,
     errors: &mut E,
 ) -> Result<bool, AllocError>
     ensures whole { IfOk result (λ whole. whole ≡ true → Appends (E.contents errors.old) (E.contents errors.new)
-        (failing_lines (failures_of serial row deposit))) }
+        (failing_lines (failures_of serial found.now))) }
     ensures cut { IfOk result (λ whole. whole ≡ false → IsCutOff (E.contents errors.old) (E.contents errors.new)
-        (failing_lines (failures_of serial row deposit))) }
+        (failing_lines (failures_of serial found.now))) }
     ensures untold { OnErr result (E.contents errors.new ≡ E.contents errors.old) }
 {
-    let lines = lines_of(alloc, serial, row, deposit)?;
+    let lines = lines_of(alloc, serial, found)?;
     let taken = write_octets(errors, lines.as_bytes());
     Ok(taken == lines.len())
 }
 
 /// These lines.
-fn lines_of(alloc: Global, serial: u64, row: bool, deposit: bool) -> Result<String, AllocError>
-    ensures { IfOk result (λ lines. string_bytes lines ≡ failing_lines (failures_of serial row deposit)) }
+fn lines_of(alloc: Global, serial: u64, found: &Findings) -> Result<String, AllocError>
+    ensures { IfOk result (λ lines. string_bytes lines ≡ failing_lines (failures_of serial found.now)) }
 {
-    match (row, deposit) {
-        (true, true) => Ok(String::new(alloc)),
-        (false, true) => row_line(alloc, serial),
-        (true, false) => deposit_line(alloc, serial),
-        (false, false) => both_lines(alloc, serial),
+    let mut lines = String::new(alloc);
+    add_row(alloc, &mut lines, serial, found.row)?;
+    add_deposit(alloc, &mut lines, serial, found.deposit)?;
+    add_judged(alloc, &mut lines, serial, found.judged)?;
+    Ok(lines)
+}
+
+/// Adds the line of a row, unless that passes.
+fn add_row(alloc: Global, lines: &mut String, serial: u64, passes: bool) -> Result<(), AllocError>
+    ensures { OnOk result (string_bytes lines.new
+        ≡ string_bytes lines.old ++ failing_lines (if passes then [] else Row serial ∷ [])) }
+{
+    if passes {
+        return Ok(());
     }
+    let line = row_line(alloc, serial)?;
+    lines.push_str(line.as_str())
 }
 
 fn row_line(alloc: Global, serial: u64) -> Result<String, AllocError>
@@ -317,17 +428,58 @@ fn row_line(alloc: Global, serial: u64) -> Result<String, AllocError>
     format!(in alloc; "row {serial} fails\n")
 }
 
+/// Adds the line of a deposit, unless that passes.
+fn add_deposit(
+    alloc: Global,
+    lines: &mut String,
+    number: u64,
+    passes: bool,
+) -> Result<(), AllocError>
+    ensures { OnOk result (string_bytes lines.new
+        ≡ string_bytes lines.old ++ failing_lines (if passes then [] else Deposit number ∷ [])) }
+{
+    if passes {
+        return Ok(());
+    }
+    let line = deposit_line(alloc, number)?;
+    lines.push_str(line.as_str())
+}
+
 fn deposit_line(alloc: Global, number: u64) -> Result<String, AllocError>
     ensures { IfOk result (λ line. string_bytes line ≡ failing_line (Deposit number)) }
 {
     format!(in alloc; "deposit {number} fails\n")
 }
 
-fn both_lines(alloc: Global, serial: u64) -> Result<String, AllocError>
-    ensures { IfOk result (λ lines. string_bytes lines ≡ failing_line (Row serial) ++ failing_line (Deposit serial)) }
+/// Adds the line of a judgement, unless the row is given by the rules, or taken as it stands.
+fn add_judged(
+    alloc: Global,
+    lines: &mut String,
+    serial: u64,
+    judged: Option<Judgement>,
+) -> Result<(), AllocError>
+    ensures { OnOk result (string_bytes lines.new
+        ≡ string_bytes lines.old ++ failing_lines (judged_of serial judged)) }
 {
-    let mut lines = row_line(alloc, serial)?;
-    let others = deposit_line(alloc, serial)?;
-    lines.push_str(others.as_str())?;
-    Ok(lines)
+    let Some(judgement) = told(judged) else {
+        return Ok(());
+    };
+    let line = judgement_line(alloc, serial, judgement)?;
+    lines.push_str(line.as_str())
+}
+
+/// What of a judgement is told.
+fn told(judged: Option<Judgement>) -> Option<Judgement>
+    ensures { (serial : ℕ) → judged_of serial judged ≡ option_to_list (option_map (Judged serial) result) }
+{
+    match judged {
+        None | Some(Judgement::Given) => None,
+        Some(judgement) => Some(judgement),
+    }
+}
+
+fn judgement_line(alloc: Global, serial: u64, judgement: Judgement) -> Result<String, AllocError>
+    ensures { IfOk result (λ line. string_bytes line ≡ failing_line (Judged serial judgement)) }
+{
+    format!(in alloc; "row {serial} {judgement}\n")
 }

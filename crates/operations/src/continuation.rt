@@ -1,32 +1,25 @@
 //! How the history of a database goes on in a new one.
-ghost use Rattle.std.specs.Prelude.{◌≡◌, reverse, map, option_map, Err, IfOk, IfErr, IsOk, MatchResult, OnOk};
+ghost use Rattle.std.specs.Prelude.{◌≡◌, ◌⊎◌, reverse, map, option_map, Err, IfOk, IfErr, IsOk, MatchResult, OnOk};
+ghost use Rattle.std.specs.Prelude.{Ok};
 ghost use Rattle.std.specs.List.{list_any};
-ghost use Rattle.book.specs.Continuation.{holds_all};
-ghost use Rattle.book.specs.Entries.{entries_view};
+ghost use Rattle.book.specs.Continuation.{closed, holds_all};
 ghost use Rattle.book.specs.Fault.{IsOfStorage};
 ghost use Rattle.book.specs.History.{History, holds};
 ghost use Rattle.book.specs.Stands.{OnlyLooks, Stands};
 ghost use Rattle.book.specs.Values.{hold_view, stamp_view};
-ghost use Rattle.operations.specs.Continuation.{Carries, ClosesKnown, HasBegun, IsAskedFor, IsBelow, IsCarried};
+ghost use Rattle.operations.specs.Continuation.{Carries, Closes, HasBegun, IsAskedFor, IsBelow, IsCarried};
 ghost use Rattle.operations.specs.Continuation.{IsLookFault, entries_of, last_stamp_of};
 ghost use Rattle.operations.specs.DatabaseFaults.{IsOpeningFault};
-ghost use Rattle.operations.specs.OverFiles.{IsClosedOver, IsContinuedOver, IsLeftOver, IsMadeOver, IsRefusedBy};
-ghost use Rattle.sqlite.specs.Files.{over_files};
-ghost use Rattle.store.specs.Stands.{over_tables};
+ghost use Rattle.operations.specs.OverFiles.{IsContinuedOver, IsDoneOver, IsMadeOver, IsRefusedBy};
 
 use crate::carried::{Carried, holds_all};
-use crate::database::Database;
-use crate::database_files::DatabaseFiles;
+use crate::database::{Database, DatabaseFiles, make_at};
 use crate::fault::ContinuationFault;
-use crate::lifecycle::close_files;
-use crate::open_database::OpenDatabase;
+use crate::operation::{Operation, perform_at};
 use crate::void_stamp::{Floor, void_for};
 use book::{Book, Entry, Hold, Stamp, StoreFault, continuations_go_on, identities_tell_who_signed};
-use desk::{continuations_are_sound_in_full, void_stamps_are_stated};
-use sqlite::FileStore;
-use sqlite_disk::Disk;
+use desk::void_stamps_are_stated;
 use std::alloc::Global;
-use store::Store;
 
 const ALL_MOMENTS: Hold = Hold {
     from: 0,
@@ -65,124 +58,103 @@ pub fn continue_in<F: DatabaseFiles, N: DatabaseFiles>(
     continuations_go_on();
     identities_tell_who_signed();
     void_stamps_are_stated();
-    continuations_are_sound_in_full();
     let room = new.files.may_make(new.path);
-    let carried = close_at(alloc, old, floor, room)?;
+    let carried = close_at(alloc, old, Closing { floor, room })?;
     match make_from(alloc, new, &carried) {
         Ok(()) => Ok(()),
         Err(fault) => Err(ContinuationFault::Unfinished(fault)),
     }
 }
 
-/// Closes the history of a database for tokens, and answers what is carried on from it. The caller hands in whether
-/// there is room for the new one.
+/// What closes a history for tokens, and answers what is carried on from it.
+#[derive(Clone, Copy)]
+struct Closing {
+    /// Above what it goes on.
+    floor: Option<Floor>,
+    /// Whether there is room for the new one.
+    room: Result<(), StoreFault>,
+}
+
+impl Operation<(), ()> for Closing {
+    type Answer = Result<Carried, ContinuationFault>;
+
+    ghost answers = { λ _ _ _ _ _ _. Unit {0} };
+
+    ghost moves = { λ _ g closing old new _ _ _ _ done. IfErr closing.room IsOpeningFault
+        → Carries g closing.floor old new done };
+
+    fn perform<B: Book + Drop>(
+        self,
+        alloc: Global,
+        book: B,
+        _input: &mut (),
+        _output: &mut (),
+    ) -> (B, Result<Carried, ContinuationFault>) {
+        let mut book = book;
+        let carried = carry(alloc, &mut book, self);
+        (book, carried)
+    }
+}
+
+/// Closes the history of a database for tokens, and answers what is carried on from it.
 fn close_at<F: DatabaseFiles>(
     alloc: Global,
     database: Database<'_, F>,
-    floor: Option<Floor>,
-    room: Result<(), StoreFault>,
+    closing: Closing,
 ) -> Result<Carried, ContinuationFault>
-    requires { IfErr room IsOpeningFault }
-    ensures closed { IfOk result (IsClosedOver F.Disk.Disk F.held floor) }
+    requires { IfErr closing.room IsOpeningFault }
+    ensures closed { IfOk result (λ carried. IsDoneOver F.Disk.Disk F.held (λ g opened left.
+        Carries g closing.floor opened left (Ok carried))) }
     ensures refused { IfErr result (IsRefusedBy F.Disk.Disk F.held
-        (F.refuses database.entry.files database.entry.path.now) floor) }
+        (F.refuses database.entry.files database.entry.path.now) closing.floor) }
 {
-    match database.files.open(database.path) {
-        Ok(store) => close_in_files(alloc, store, floor, room),
+    match perform_at(alloc, database, closing, &mut (), &mut ()) {
+        Ok(done) => done,
         Err(fault) => Err(ContinuationFault::Unopened(fault)),
     }
 }
 
-/// Closes a store over files for tokens, and then those files.
-fn close_in_files<D: Disk + Drop>(
-    alloc: Global,
-    store: Store<FileStore<D>>,
-    floor: Option<Floor>,
-    room: Result<(), StoreFault>,
-) -> Result<Carried, ContinuationFault>
-    requires { IfErr room IsOpeningFault }
-    ensures { IsLeftOver D.Disk (λ left. Carries (over_tables over_files) (λ b. Unit {0}) floor store left result) }
-{
-    close_and_leave(alloc, store, floor, room)
-}
-
-/// Closes a history for tokens, and then its database.
-fn close_and_leave<B: OpenDatabase>(
-    alloc: Global,
-    opened: B,
-    floor: Option<Floor>,
-    room: Result<(), StoreFault>,
-) -> Result<Carried, ContinuationFault>
-    requires { IfErr room IsOpeningFault }
-    ensures { (left : B) × Carries B.Standing (λ b. Unit {0}) floor opened left result × B.closes left }
-{
-    let mut kept = opened;
-    let carried = close_kept(alloc, &mut kept, floor, room);
-    kept.close_database();
-    carried
-}
-
-/// Closes a history for tokens.
-fn close_kept<B: OpenDatabase>(
-    alloc: Global,
-    kept: &mut B,
-    floor: Option<Floor>,
-    room: Result<(), StoreFault>,
-) -> Result<Carried, ContinuationFault>
-    requires { IfErr room IsOpeningFault }
-    ensures { Carries B.Standing (λ b. Unit {0}) floor kept.old kept.new result }
-{
-    let held = kept.all_holds()?;
-    carry(kept, held, alloc, floor, room)
-}
-
-/// Looks up what is carried on from a book with these holds, and closes it for tokens, where there is room for the new
-/// one.
+/// Looks up what is carried on from a book, and closes it for tokens, where there is room for the new one.
 fn carry<B: Book>(
-    book: &mut B,
-    held: Vec<Hold>,
     alloc: Global,
-    floor: Option<Floor>,
-    room: Result<(), StoreFault>,
+    book: &mut B,
+    closing: Closing,
 ) -> Result<Carried, ContinuationFault>
-    requires { IfErr room IsOpeningFault }
-    ensures done { Carries B.Standing (λ b. map hold_view held.items ≡ reverse (holds b)) floor book.old book.new
-        result }
-    ensures room { MatchResult result (λ _. IsOk room) (λ fault. HasBegun fault → IsOk room) }
+    ensures done { IfErr closing.room IsOpeningFault → Carries B.Standing closing.floor book.old book.new result }
+    ensures room { MatchResult result (λ _. IsOk closing.room) (λ fault. HasBegun fault → IsOk closing.room) }
 {
-    let carried = look_up(book, held, alloc, floor)?;
-    if let Err(fault) = room {
-        return Err(ContinuationFault::Unclosed(fault));
-    }
+    let carried = look_up(alloc, book, closing.floor)?;
+    closing.room?;
     match close_for_tokens(book, carried.holds.as_slice()) {
         Ok(()) => Ok(carried),
         Err(refused) => Err(ContinuationFault::Unfinished(refused)),
     }
 }
 
-/// Looks up what is carried on from a book with these holds, above what is asked for.
+/// Looks up what is carried on from a book, above what is asked for.
 fn look_up<B: Book>(
-    book: &mut B,
-    held: Vec<Hold>,
     alloc: Global,
+    book: &mut B,
     floor: Option<Floor>,
 ) -> Result<Carried, ContinuationFault>
     ensures looks { OnlyLooks B.Standing book.old book.new }
+    ensures settled { B.honest book.new → (left : B.Left) → B.leaves book.new left → (b : History)
+        → Stands B.Standing b book.old → OnOk result (B.holds left b) }
     ensures value { B.honest book.new → (b : History) → Stands B.Standing b book.old
-        → map hold_view held.items ≡ reverse (holds b) → IfOk result (λ carried. IsCarried carried b) }
-    ensures same { IfOk result (λ carried. carried.holds ≡ held) }
+        → IfOk result (λ carried. IsCarried carried b) }
     ensures asked { IfOk result (IsAskedFor floor) }
     ensures none { result ≡ Err ContinuationFault.NotAfter → B.honest book.new → (b : History)
         → Stands B.Standing b book.old → IsBelow floor b }
     ensures refusals { IfErr result IsLookFault }
 {
     let calibration = book.calibration()?;
+    let holds = book.holds()?;
     let stamp = last_stamp(book)?;
     let identities = book.identities()?;
     let void = void_for(alloc, floor, stamp.as_ref())?;
     Ok(Carried {
         calibration,
-        holds: held,
+        holds,
         stamp,
         identities,
         void,
@@ -201,8 +173,12 @@ fn last_stamp<B: Book>(book: &mut B) -> Result<Option<Stamp>, StoreFault>
 
 /// Adds a hold of all moments to a book with these holds, unless there is one.
 fn close_for_tokens<B: Book>(book: &mut B, held: &[Hold]) -> Result<(), StoreFault>
-    ensures closes { ClosesKnown B.Standing (λ b. map hold_view held.now ≡ reverse (holds b)) book.old book.new
-        result }
+    ensures closes { Closes B.Standing (λ b. map hold_view held.now ≡ reverse (holds b)) book.old book.new result }
+
+    // Where what a stop could leave before held the history, what it leaves now holds it closed.
+    ensures settled { B.honest book.new → (left : B.Left) → B.leaves book.new left → (b : History)
+        → Stands B.Standing b book.old → map hold_view held.now ≡ reverse (holds b)
+        → (B.leaves book.old left → B.holds left b) → OnOk result (B.holds left (closed b)) }
     ensures refusals { IfErr result IsOfStorage }
 {
     if is_closed(held) {
@@ -225,23 +201,14 @@ fn make_from<N: DatabaseFiles>(
     carried: &Carried,
 ) -> Result<(), StoreFault>
     ensures made { OnOk result (IsMadeOver N.Disk.Disk (entries_of carried.now)) }
+
+    // It is refused for want of memory over the entries, or by the making.
+    ensures refused { IfErr result (λ fault. (fault ≡ StoreFault.Memory)
+        ⊎ N.refuses_making new.entry.files new.entry.path.now fault) }
     ensures refusals { IfErr result IsOpeningFault }
 {
     match carried.entries(alloc) {
-        Ok(entries) => make_with(new, entries.as_slice()),
+        Ok(entries) => make_at(new, entries.as_slice()),
         Err(_) => Err(StoreFault::Memory),
     }
-}
-
-/// Makes the new database, with these entries, and closes it.
-fn make_with<N: DatabaseFiles>(
-    new: Database<'_, N>,
-    entries: &[Entry<'_>],
-) -> Result<(), StoreFault>
-    ensures made { OnOk result (IsMadeOver N.Disk.Disk (entries_view entries.now)) }
-    ensures refusals { IfErr result IsOpeningFault }
-{
-    let made = new.files.make(new.path, entries)?;
-    close_files(made);
-    Ok(())
 }

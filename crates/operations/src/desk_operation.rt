@@ -6,23 +6,39 @@ ghost use Rattle.desk.specs.Calls.{settings_view};
 ghost use Rattle.policy.specs.Record.{PolicyValue};
 ghost use Rattle.policy.specs.View.{policy_view};
 ghost use Rattle.operations.specs.DatabaseFaults.{IsStartingFault, IsUnready};
-ghost use Rattle.sqlite.specs.Files.{over_files};
-ghost use Rattle.store.specs.Stands.{over_tables};
-ghost use Rattle.operations.specs.OverFiles.{IsUnvisitedBy, IsVisitedBy};
+ghost use Rattle.operations.specs.OverFiles.{IsDoneOver, IsUnopenedAs};
 ghost use Rattle.operations.specs.Visits.{IsUnopened, IsUnvisited, IsVisited, Visit, visit_of};
 ghost use Rattle.operations.specs.declared.fault.OperationFault.{OperationFault as SpecFault};
+ghost use Rattle.operations.specs.declared.fault.OperationFault.TheVariants.{Store};
 
-use crate::database_desk::DatabaseDesk;
-use crate::database_files::DatabaseFiles;
+use crate::database::{Database, DatabaseFiles};
 use crate::fault::OperationFault;
-use crate::lifecycle::perform_at;
-use crate::operation::Operation;
-use crate::signed_desk::SignedDesk;
+use crate::operation::{Operation, perform_at};
 use crate::signers::Signers;
 use book::Book;
 use cms::Signer;
 use desk::{Desk, Settings};
 use std::alloc::Global;
+
+/// The desk over a database, before that is opened.
+#[derive(Drop)]
+pub struct DatabaseDesk<'a, F, S> {
+    /// The database.
+    pub database: Database<'a, F>,
+    /// By what requests are judged and answered.
+    pub settings: Settings<'a>,
+    /// What reaches who signs.
+    pub signers: S,
+}
+
+/// A desk over a book, and who signs its tokens.
+#[derive(Drop)]
+pub struct SignedDesk<'p, B: Book + Drop, G> {
+    /// The desk.
+    pub desk: Desk<'p, B>,
+    /// The signer.
+    pub signer: G,
+}
 
 /// What is done at a desk with a signer, over any book. Input and output are what it reads from and writes to; `()`
 /// where it does neither.
@@ -176,15 +192,16 @@ pub fn perform_at_desk<F: DatabaseFiles, S: Signers, I, O, T: DeskOperation<I, O
 
     // Whatever the files hold: it was done at a desk over the store that was opened over them, with the signer that was
     // reached, and both were closed and left as it left them.
-    ensures moved { IfOk result (λ answer. IsVisitedBy F.Disk.Disk F.held
-        (S.reaches desk.entry.signers) S.leaves (settings_view desk.entry.settings) (λ desk desk' signer signer'.
-        T.moves _ _ (over_tables over_files) S.Reached.Signer operation
-        (visit_of input.old input.new output.old output.new desk desk' signer signer') answer)) }
+    ensures moved { IfOk result (λ answer. IsDoneOver F.Disk.Disk F.held (λ g opened left.
+        IsVisited g (settings_view desk.entry.settings) (S.reaches desk.entry.signers) S.leaves opened left
+        (λ desk desk' signer signer'. T.moves _ _ g S.Reached.Signer operation
+        (visit_of input.old input.new output.old output.new desk desk' signer signer') answer))) }
 
     // Where it is refused, no store was opened, no signer reached, or none was asked.
-    ensures unmoved { IfErr result (IsUnvisitedBy F.Disk.Disk F.held
-        (F.refuses desk.entry.database.files desk.entry.database.path.now) (S.reaches desk.entry.signers) S.leaves
-        (S.refuses desk.entry.signers) (settings_view desk.entry.settings)) }
+    ensures unmoved { IfErr result (λ fault.
+        IsUnopenedAs Store (F.refuses desk.entry.database.files desk.entry.database.path.now) fault
+        ⊎ IsDoneOver F.Disk.Disk F.held (λ g opened left. IsUnvisited g (settings_view desk.entry.settings)
+        (S.reaches desk.entry.signers) S.leaves (S.refuses desk.entry.signers) opened left fault)) }
     ensures unread { OnErr result (input.new ≡ input.old) }
     ensures unwritten { OnErr result (output.new ≡ output.old) }
     ensures refusals { IfErr result (λ fault. IsStartingFault fault ⊎ T.lacks fault) }

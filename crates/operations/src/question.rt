@@ -1,5 +1,5 @@
 //! How a request is answered over the database at a path.
-ghost use Rattle.std.specs.Prelude.{IfOk, IfErr};
+ghost use Rattle.std.specs.Prelude.{◌⊎◌, IfOk, IfErr};
 ghost use Rattle.policy.specs.View.{policy_view};
 ghost use Rattle.decide.specs.View.{account_asked};
 ghost use Rattle.desk.specs.Answers.{reply_as};
@@ -8,13 +8,13 @@ ghost use Rattle.desk.specs.Calls.{settings_view};
 ghost use Rattle.desk.specs.Command.{Stamp};
 ghost use Rattle.operations.specs.Judged.{IsJudgedReply};
 ghost use Rattle.operations.specs.DatabaseFaults.{IsStartingFault};
-ghost use Rattle.operations.specs.OverFiles.{IsAnsweredBy, IsUnvisitedBy};
+ghost use Rattle.operations.specs.OverFiles.{IsDoneOver, IsUnopenedAs};
+ghost use Rattle.operations.specs.Visits.{IsUnvisited, IsVisited};
+ghost use Rattle.operations.specs.declared.fault.OperationFault.TheVariants.{Store};
 
-use crate::database_desk::DatabaseDesk;
-use crate::database_files::DatabaseFiles;
-use crate::desk_operation::{DeskOperation, perform_at_desk};
+use crate::database::DatabaseFiles;
+use crate::desk_operation::{DatabaseDesk, DeskOperation, SignedDesk, perform_at_desk};
 use crate::fault::OperationFault;
-use crate::signed_desk::SignedDesk;
 use crate::signers::Signers;
 use book::Book;
 use cms::Signer;
@@ -77,12 +77,16 @@ pub fn answer<F: DatabaseFiles, S: Signers>(
 
     // Whatever the files hold: it is the answer of the machine's step, at a desk over the store that was opened over
     // them, with the signer that was reached.
-    ensures stepped { IfOk result (λ reply. IsAnsweredBy F.Disk.Disk F.held S.Reached.Signer
-        (S.reaches desk.entry.signers) S.leaves (settings_view desk.entry.settings)
-        (account_asked question.now.account) question.now.reading question.now.query.now (reply_as reply)) }
-    ensures unanswered { IfErr result (IsUnvisitedBy F.Disk.Disk F.held
-        (F.refuses desk.entry.database.files desk.entry.database.path.now) (S.reaches desk.entry.signers) S.leaves
-        (S.refuses desk.entry.signers) (settings_view desk.entry.settings)) }
+    ensures stepped { IfOk result (λ reply. IsDoneOver F.Disk.Disk F.held (λ g opened left.
+        IsVisited g (settings_view desk.entry.settings) (S.reaches desk.entry.signers) S.leaves opened left
+        (λ desk desk' signer signer'. IsStep g
+        (with_signer S.Reached.Signer.signs S.Reached.Signer.fault_count signer signer')
+        (Stamp (account_asked question.now.account) question.now.reading question.now.query.now) desk desk'
+        (reply_as reply)))) }
+    ensures unanswered { IfErr result (λ fault.
+        IsUnopenedAs Store (F.refuses desk.entry.database.files desk.entry.database.path.now) fault
+        ⊎ IsDoneOver F.Disk.Disk F.held (λ g opened left. IsUnvisited g (settings_view desk.entry.settings)
+        (S.reaches desk.entry.signers) S.leaves (S.refuses desk.entry.signers) opened left fault)) }
     ensures refusals { IfErr result IsStartingFault }
 {
     perform_at_desk(alloc, desk, *question, &mut (), &mut ())

@@ -1,11 +1,12 @@
 //! A void stamp in place of a history's last one.
-ghost use Rattle.std.specs.Prelude.{◌≡◌, ◌⊎◌, ◌<◌, ◌≤◌, option_map, Err, IfOk, IfErr, IfSome, IsNone};
+ghost use Rattle.std.specs.Prelude.{◌≡◌, ◌⊎◌, ◌↔◌, ◌<◌, ◌≤◌, option_map, Err, IfOk, IfErr, IfSome, IsNone};
 ghost use Rattle.gentime.specs.GenTime.{last_moment};
 ghost use Rattle.book.specs.Sound.{greatest_number};
 ghost use Rattle.book.specs.Values.{reservation_view, stamp_view};
 ghost use Rattle.desk.specs.Continuation.{IsRestated};
 ghost use Rattle.operations.specs.VoidStamp.{ComesAfter, IsNoneAfter, IsNoneAfterIfAny, IsVoidFault, void_view};
-ghost use Rattle.operations.specs.VoidStamp.{IsVoidFor, IsVoidIfAny, reserved_as, reserved_in_place, void_of};
+ghost use Rattle.operations.specs.VoidStamp.{IsUnreadable, IsUnreadAfter, IsVoidFor, IsVoidIfAny, reserved_as};
+ghost use Rattle.operations.specs.VoidStamp.{reserved_in_place, void_of};
 
 use crate::fault::ContinuationFault;
 use book::{GREATEST_NUMBER, Reservation, Stamp, StoreFault};
@@ -42,8 +43,10 @@ impl VoidStamp {
     ) -> Result<VoidStamp, ContinuationFault>
         ensures void { IfOk result (λ void. IsVoidFor floor (option_map (λ s. stamp_view s.now) last.entry)
             (void_view void)) }
-        ensures none { result ≡ Err ContinuationFault.NotAfter
-            → IsNoneAfter floor (option_map (λ s. stamp_view s.now) last.entry) }
+        ensures none { (result ≡ Err ContinuationFault.NotAfter)
+            ↔ IsNoneAfter floor (option_map (λ s. stamp_view s.now) last.entry) }
+        ensures unread { (result ≡ Err (ContinuationFault.Unclosed StoreFault.NotOurs))
+            ↔ IsUnreadAfter floor (option_map (λ s. stamp_view s.now) last.entry) }
         ensures refusals { IfErr result IsVoidFault }
     {
         let Some(last) = last else {
@@ -85,8 +88,8 @@ pub(crate) fn void_for(
 ) -> Result<Option<VoidStamp>, ContinuationFault>
     ensures void { IfOk result (λ void. IsVoidIfAny floor (option_map (λ s. stamp_view s.now) last.entry)
         (option_map void_view void)) }
-    ensures none { result ≡ Err ContinuationFault.NotAfter
-        → IsNoneAfterIfAny floor (option_map (λ s. stamp_view s.now) last.entry) }
+    ensures none { (result ≡ Err ContinuationFault.NotAfter)
+        ↔ IsNoneAfterIfAny floor (option_map (λ s. stamp_view s.now) last.entry) }
     ensures refusals { IfErr result IsVoidFault }
 {
     match floor {
@@ -133,6 +136,7 @@ fn restated(
     requires within { serial ≤ greatest_number }
     ensures restated { IfOk result (λ tst.
         IsRestated (void_of serial gen_time tst.items) (reserved_as (stamp_view last.now))) }
+    ensures unread { (result ≡ Err StoreFault.NotOurs) ↔ IsUnreadable (stamp_view last.now) }
     ensures refusals { IfErr result (λ fault. (fault ≡ StoreFault.Memory) ⊎ (fault ≡ StoreFault.NotOurs)) }
 {
     requests_have_one_reading();

@@ -8,7 +8,8 @@ use Rattle.command_line.proofs.parse.audit_word.Goals as goal
 pub returns-clause-found : goal.returns-clause-found
 returns-clause-found c =
     let found = found_of c.args.matches.now in
-    let flag = one_text-rows found (codes "check") in (
+    let check = one_text-rows found (codes "check") in
+    let judge = one_text-rows found (codes "judge") in (
       refl,
       record {
         db = reads_text found (codes "db") c.get_str.result c.in-Some.db c.get_str.ensures c.in-Some.is;
@@ -19,9 +20,14 @@ returns-clause-found c =
         from = c.in-Some-number.ensures.stated;
         to = c.in-Some-number-2.ensures.stated;
         check = record {
-          absent = λ is. c.get_flag.ensures.none (flag ∙ is);
-          given = λ is. c.get_flag.ensures.value (flag ∙ is);
-          default = λ is. c.get_flag.ensures.other (flag ∙ is);
+          absent = λ is. c.get_flag.ensures.none (check ∙ is);
+          given = λ is. c.get_flag.ensures.value (check ∙ is);
+          default = λ is. c.get_flag.ensures.other (check ∙ is);
+        };
+        judge = record {
+          absent = λ is. c.get_flag-2.ensures.none (judge ∙ is);
+          given = λ is. c.get_flag-2.ensures.value (judge ∙ is);
+          default = λ is. c.get_flag-2.ensures.other (judge ∙ is);
         };
       },
     )

@@ -66,8 +66,16 @@ pub returns-in-audit-clause-none : goal.returns-in-audit-clause-none
 returns-in-audit-clause-none c =
     named_none (rows_of (found_of c.args.words.now)) c.audit_word.result c.in-audit.is c.audit_word.ensures.none
 
+pub returns-in-explain-clause-found : goal.returns-in-explain-clause-found
+returns-in-explain-clause-found c =
+    named_found (rows_of (found_of c.args.words.now)) c.explain_word.result c.in-explain.is c.explain_word.ensures.found
+
+pub returns-in-explain-clause-none : goal.returns-in-explain-clause-none
+returns-in-explain-clause-none c =
+    named_none (rows_of (found_of c.args.words.now)) c.explain_word.result c.in-explain.is c.explain_word.ensures.none
+
 pub returns-in_default-clause-none : goal.returns-in_default-clause-none
 returns-in_default-clause-none c = λ none.
     none_other c.args.name.now (rows_of (found_of c.args.words.now)) c.in_default.not-tst c.in_default.not-check
     c.in_default.not-init c.in_default.not-migrate c.in_default.not-continue c.in_default.not-calibrate
-    c.in_default.not-hold c.in_default.not-audit (c.signed_word_named.ensures.none none)
+    c.in_default.not-hold c.in_default.not-audit c.in_default.not-explain (c.signed_word_named.ensures.none none)

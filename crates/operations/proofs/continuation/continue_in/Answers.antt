@@ -4,19 +4,16 @@ use Rattle.operations.proofs.continuation.continue_in.Goals as goal
 pub returns-in-Ok-clause-continued : goal.returns-in-Ok-clause-continued
 returns-in-Ok-clause-continued g c =
     let on = c.continuations_go_on.ensures in
-    let full = c.continuations_are_sound_in_full.ensures in
-    continued_in _ _ _ _ _ _ _ c.in_ok-carried.carried (record {
+    continued_in _ _ _ _ c.in_ok-carried.carried (record {
       tells = c.identities_tell_who_signed.ensures;
       fit = on.fit;
       serial = on.serial;
       moment = on.moment;
       above = on.above;
       states = c.void_stamps_are_stated.ensures;
-      whole = full.whole;
-      rising = full.rising;
     }) c.in_ok-carried.ensures.closed c.in-Ok.ensures.made
 
 pub returns-clause-refused : goal.returns-clause-refused
 returns-clause-refused g c =
-    unfinished_in _ _ _ (g.F.DatabaseFiles.refuses c.args.old.files c.args.old.path.now) _ c.in_ok-carried.carried c.in-Err.fault c.in-Err.ensures.refusals
+    unfinished_in _ _ (g.F.DatabaseFiles.refuses c.args.old.files c.args.old.path.now) _ c.in_ok-carried.carried c.in-Err.fault c.in-Err.ensures.refusals
     c.in_ok-carried.ensures.closed

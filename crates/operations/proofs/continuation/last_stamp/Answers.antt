@@ -1,7 +1,7 @@
 use Rattle.std.proofs.Common.{ap}
 use Rattle.std.proofs.lemmas.Result.{IfOk-weaker}
 use Rattle.book.specs.declared.values.Last.{Last}
-use Rattle.operations.proofs.CheckedStamps.{looks_after}
+use Rattle.operations.proofs.ExaminedStamps.{looks_after}
 use Rattle.operations.proofs.GoingOn.{last_found}
 use Rattle.operations.proofs.continuation.last_stamp.Goals as goal
 

@@ -1,4 +1,0 @@
-use Rattle.operations.proofs.continuation.make_with.Goals as goal
-
-pub returns-clause-made : goal.returns-clause-made
-returns-clause-made g c = (c.in_ok-made.made, tt, c.in_ok-made.ensures.stands, c.close_files.ensures)

@@ -1,7 +1,0 @@
-use Rattle.std.proofs.lemmas.Result.{IfOk-weaker}
-use Rattle.operations.proofs.FileStores.{stands_as_book}
-use Rattle.operations.proofs.host_files.HostFilesDatabaseFiles.make.Goals as goal
-
-pub returns-clause-stands : goal.returns-clause-stands
-returns-clause-stands g c =
-    IfOk-weaker c.make_with.result _ _ (λ made makes fit. stands_as_book _ _ made (makes fit)) c.make_with.ensures.made

@@ -1,0 +1,210 @@
+//! What this machine gives: the files of its databases, and the signers that it reaches.
+ghost use Rattle.std.specs.Prelude.{◌≡◌, IfErr, IfOk};
+ghost use Rattle.store.specs.Files.{image_at};
+ghost use Rattle.operations.specs.DatabaseFaults.{IsOpeningFault, IsUnreached};
+ghost use Rattle.operations.specs.OverFiles.{IsAny, IsClosedAs, IsReached};
+ghost use Rattle.operations.specs.Signing.{IsOfKind, algorithm_of};
+
+use crate::database::{DatabaseFiles, OpenDatabase};
+use crate::fault::OperationFault;
+use crate::signers::{AnySigner, HostSigner, Signers};
+use book::Entry;
+use cms::{Algorithm, KeyedHash, Signer};
+use sessions::{KeyHolderSigner, SIGNER_SECONDS, Session, connect_reconnecting, connect_signer};
+use sqlite::{FileFrom, FileStore, Start};
+use sqlite_disk::{Disk, Files};
+use std::io::Stderr;
+use std::time::Duration;
+use store::{Store, StoreFault, may_make_at};
+
+/// The files of one database of this machine, before they are opened.
+#[derive(Drop)]
+pub struct HostFiles<'a, F> {
+    /// The system.
+    rt: &'a HostRuntime,
+    /// What is supposed of the files.
+    pub start: F,
+}
+
+impl<'a, F: Start + Drop> HostFiles<'a, F> {
+    /// Those of the machine, of which that is supposed.
+    pub fn new(rt: &'a HostRuntime, start: F) -> HostFiles<'a, F>
+        ensures { result.start ≡ start }
+    {
+        HostFiles { rt, start }
+    }
+}
+
+/// Of a refusal it tells the kind.
+impl<F: Start + Drop> DatabaseFiles for HostFiles<'_, F> {
+    type Disk = FileFrom<F>;
+
+    ghost held = { image_at F.Start };
+
+    ghost refuses = { λ _ _ fault. IsOpeningFault fault };
+
+    ghost refuses_making = { λ _ _ fault. IsOpeningFault fault };
+
+    ghost refuses_migrating = { λ _ _ fault. IsOpeningFault fault };
+
+    fn open(self, path: &str) -> Result<Store<FileStore<FileFrom<F>>>, StoreFault> {
+        Store::open(self.rt, path, self.start)
+    }
+
+    fn make(
+        self,
+        path: &str,
+        entries: &[Entry<'_>],
+    ) -> Result<Store<FileStore<FileFrom<F>>>, StoreFault> {
+        Store::make_with(self.rt, path, self.start, entries)
+    }
+
+    fn may_make(&self, path: &str) -> Result<(), StoreFault> {
+        may_make_at(self.rt, path)
+    }
+
+    fn migrate(self, path: &str) -> Result<(), StoreFault> {
+        Store::migrate_at(self.rt, path, self.start)
+    }
+}
+
+/// A store over files tells what closing it leaves in these.
+impl<D: Disk + Drop> OpenDatabase for Store<FileStore<D>> {
+    type Left = Files<D>;
+
+    ghost closes = { λ closed done. IsClosedAs D.Disk closed done };
+
+    fn close_database(self) -> Result<Files<D>, StoreFault> {
+        self.close()
+    }
+}
+
+/// Who signs.
+#[derive(Drop)]
+pub enum Signing<'a> {
+    /// The stand-in, a keyed hash.
+    Keyed(KeyedHash),
+    /// A key holder, by signatures of an algorithm. Once the database is open a connection is made to it. `serve` makes
+    /// another where that was lost.
+    Session {
+        /// Where the key holder listens.
+        address: &'a str,
+        /// The algorithm of its signatures.
+        algorithm: Algorithm,
+    },
+}
+
+/// Whether another session with a key holder is opened where one was lost.
+#[derive(Clone, Copy)]
+pub enum Renewal {
+    /// One session is kept to the end.
+    Never,
+    /// Another is opened when the next signature is asked for.
+    AfterLoss {
+        /// Whether standard error tells of it.
+        told: bool,
+    },
+}
+
+impl<'a> Signing<'a> {
+    /// The algorithm of the signatures. Takes no memory.
+    pub fn algorithm(&self) -> &Algorithm
+        ensures { result.now ≡ algorithm_of self.now }
+    {
+        match self {
+            Signing::Keyed(signer) => signer.algorithm(),
+            Signing::Session {
+                address: _,
+                algorithm,
+            } => algorithm,
+        }
+    }
+
+    /// Reaches who signs: by a connection to a key holder, and the stand-in as it is. `Unreached` where the key holder
+    /// can't be reached.
+    pub(crate) fn reach(
+        self,
+        rt: &'a HostRuntime,
+        renewal: Renewal,
+    ) -> Result<HostSigner<'a>, OperationFault>
+        ensures reached { IfOk result (IsReached ⟦<HostSigner<'static> as Signer>⟧ (algorithm_of self.entry)) }
+        ensures kind { IfOk result (IsOfKind self.entry renewal) }
+        ensures refusals { IfErr result IsUnreached }
+    {
+        match self {
+            Signing::Keyed(signer) => Ok(AnySigner::Keyed(signer)),
+            Signing::Session { address, algorithm } => match renewal {
+                Renewal::Never => Ok(AnySigner::Session(reach_once(rt, address, algorithm)?)),
+                Renewal::AfterLoss { told } => Ok(AnySigner::Reconnecting(reach_again(
+                    rt, address, algorithm, told,
+                )?)),
+            },
+        }
+    }
+}
+
+/// A session with the key holder. `Unreached` where there is none.
+fn reach_once<'a>(
+    rt: &'a HostRuntime,
+    address: &str,
+    algorithm: Algorithm,
+) -> Result<Session<'a, HostRuntime>, OperationFault>
+    ensures algorithm { IfOk result (λ signer. signer.algorithm ≡ algorithm) }
+    ensures unused { IfOk result (λ signer. signer.faults ≡ 0) }
+    ensures refusals { IfErr result IsUnreached }
+{
+    let limit = Duration::from_secs(SIGNER_SECONDS);
+    connect_signer(rt, address, limit, algorithm).or(Err(OperationFault::Unreached))
+}
+
+/// Sessions with the key holder, of which standard error tells where they are to be told. `Unreached` where there is
+/// none.
+fn reach_again<'a>(
+    rt: &'a HostRuntime,
+    address: &'a str,
+    algorithm: Algorithm,
+    told: bool,
+) -> Result<KeyHolderSigner<'a, HostRuntime, Stderr>, OperationFault>
+    ensures algorithm { IfOk result (λ signer. signer.algorithm ≡ algorithm) }
+    ensures unused { IfOk result (λ signer. signer.faults ≡ 0) }
+    ensures refusals { IfErr result IsUnreached }
+{
+    let limit = Duration::from_secs(SIGNER_SECONDS);
+    let notices = told.then(|| rt.stderr());
+    connect_reconnecting(rt, address, limit, algorithm, notices).or(Err(OperationFault::Unreached))
+}
+
+/// What reaches who signs, from this machine.
+#[derive(Drop)]
+pub struct HostSigners<'a> {
+    /// Its system.
+    pub rt: &'a HostRuntime,
+    /// Who signs.
+    pub signing: Signing<'a>,
+    /// Whether another session with the key holder is opened where one was lost.
+    pub renewal: Renewal,
+}
+
+/// Of what is reached it tells its algorithm, and that it is unused; of what is left, nothing.
+impl<'a> Signers for HostSigners<'a> {
+    type Reached = HostSigner<'a>;
+
+    ghost reaches = { λ work signer. IsReached ⟦<HostSigner<'static> as Signer>⟧ (algorithm_of work.signing) signer };
+
+    ghost refuses = { λ _ fault. IsUnreached fault };
+
+    ghost leaves = { λ signer. IsAny signer };
+
+    fn reach(self) -> Result<HostSigner<'a>, OperationFault>
+        ensures reached { IfOk result
+            (IsReached ⟦<HostSigner<'static> as Signer>⟧ (algorithm_of self.entry.signing)) }
+        ensures kind { IfOk result (IsOfKind self.entry.signing self.entry.renewal) }
+        ensures refusals { IfErr result IsUnreached }
+    {
+        self.signing.reach(self.rt, self.renewal)
+    }
+
+    fn leave(_reached: HostSigner<'a>)
+        ensures { Unit {0} }
+    {}
+}
