@@ -10,6 +10,7 @@ use Rattle.cms.specs.declared.signer.SignerFault.{SignerFault}
 use Rattle.desk.specs.Batches.{Question}
 use Rattle.desk.specs.CallContract.{DeskValue}
 use Rattle.desk.specs.Command.{Answer}
+use Rattle.desk.specs.Outcome.{Outcome}
 use Rattle.desk.specs.Together.{AreRejectedUnasked, IsAnsweredTogether}
 use Rattle.service.specs.Stamps.{AsksStamp}
 use Rattle.service.specs.declared.exchange.Exchanged.{Exchanged}
@@ -20,13 +21,14 @@ use Rattle.connections.specs.Parts.{answered_along}
 use Rattle.connections.proofs.PartsLemmas.{answered_then, done_then, handed_in_turn, taken_then}
 
 -- as many replies as stamps
-pub as_many_judged : (file : PolicyValue) (asked : List Question) (answers : List Answer)
-    → AreRejectedUnasked file asked answers → length answers ≡ length asked
-as_many_judged file [] [] judged = refl
-as_many_judged file (a ∷ asked) (answer ∷ answers) judged =
-    omega (arith, as_many_judged file asked answers judged.1)
-as_many_judged file [] (answer ∷ answers) judged = absurd judged
-as_many_judged file (a ∷ asked) [] judged = absurd judged
+pub as_many_judged : (file : PolicyValue) (asked : List Question) (answers : List Answer) (os : List Outcome)
+    → AreRejectedUnasked file asked answers os → length answers ≡ length asked
+as_many_judged file [] [] os judged = refl
+as_many_judged file (a ∷ asked) (answer ∷ answers) (o ∷ os) judged =
+    omega (arith, as_many_judged file asked answers os judged.1)
+as_many_judged file [] (answer ∷ answers) os judged = absurd judged
+as_many_judged file (a ∷ asked) [] os judged = absurd judged
+as_many_judged file (a ∷ asked) (answer ∷ answers) [] judged = absurd judged
 
 pub as_many_asked : {S : Type 0} (file : PolicyValue) (ones : List (HandedValue S)) (asked : List Question)
     → AreAsked file ones asked → length asked ≡ length ones
@@ -171,7 +173,7 @@ module _ {L S B X : Type 0} (takes_back : L → S → Exchanged → L → Type 0
   one_answered a old new done back = record {
     parts = alone a ∷ [];
     are = refl;
-    done = (new.others.desk, new.others.signer, (done, (refl, refl)));
+    done = record { desk = new.others.desk; signer = new.others.signer; first = done; rest = (refl, refl) };
     back = (new.hearing, (back, refl));
   }
 
@@ -207,24 +209,22 @@ module _ {L S B X : Type 0} (takes_back : L → S → Exchanged → L → Type 0
       record {
         parts = together j.members ∷ [];
         are = ap (map (λ a. a.handed)) (append-nil (map (λ m. m.answered) j.members)) ∙ are;
-        done = (
-          desk',
-          y,
-          (
-            record {
-              several = omega (arith, several, as_many, as_many_members, lengths);
-              few = omega (arith, few, as_many, as_many_members, lengths);
-              setting = replied.setting;
-              honest = replied.honest;
-              each = j.each;
-              answered = subst (λ asked. IsAnsweredTogether g signs count desk.setting asked
-                  (map (λ m. m.reply) j.members) desk.store x desk'.store y) (sym j.questions)
-                  (subst (λ says. IsAnsweredTogether g signs count desk.setting replied.asked says desk.store x desk'.store
-                  y) (sym j.replies) replied.answered);
-            },
-            (refl, refl),
-          ),
-        );
+        done = record {
+          desk = desk';
+          signer = y;
+          first = record {
+            several = omega (arith, several, as_many, as_many_members, lengths);
+            few = omega (arith, few, as_many, as_many_members, lengths);
+            setting = replied.setting;
+            honest = replied.honest;
+            each = j.each;
+            answered = subst (λ asked. IsAnsweredTogether g signs count desk.setting asked
+                (map (λ m. m.reply) j.members) desk.store x desk'.store y) (sym j.questions)
+                (subst (λ says. IsAnsweredTogether g signs count desk.setting replied.asked says desk.store x desk'.store
+                y) (sym j.replies) replied.answered);
+          };
+          rest = (refl, refl);
+        };
         back = subst (λ zs. AreTakenBack takes_back old zs new)
             (sym (append-nil (map (λ m. m.answered) j.members) ∙ j.are)) wrote.back;
       }

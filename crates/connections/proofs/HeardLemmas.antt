@@ -4,11 +4,10 @@ use Rattle.std.proofs.Common.{Err, OnErr, OnOk, arith, refl, sym, ap, subst}
 use Rattle.std.proofs.lemmas.List.{length-append, length-map, map-append}
 use Rattle.book.specs.declared.standing.Standing.{Ghosts}
 use Rattle.cms.specs.declared.signer.SignerFault.{SignerFault}
-use Rattle.desk.specs.CallContract.{DeskValue}
 use Rattle.desk.specs.MachineRuns.{IsProper}
 use Rattle.service.specs.Received.{ReceivedValue}
 use Rattle.service.specs.declared.exchange.Exchanged.{Exchanged}
-use Rattle.connections.specs.Heard.{Hall, IsHeard, failed, answered, Follow, AreHeard, StopsHearing, hall}
+use Rattle.connections.specs.Heard.{Hall, IsHeard, failed, answered, Follow, AreHeard, StopsHearing}
 use Rattle.connections.specs.Heard.{counted_along}
 use Rattle.connections.specs.Parts.{handed_along, readings}
 use Rattle.connections.specs.Run.{ServesEach}
@@ -138,14 +137,6 @@ module _ {L S C B X : Type 0} (hands : L → Option ℕ → ReceivedValue → S 
   Told n old new result =
       OnOk result (All n n old new)
       × OnErr result (StopsHearing hands fails stays takes_back contents reads g signs count n old new)
-
-  -- the same from a desk and a signer that are the same
-  pub told_from : (n : ℕ) (hearing : L) (clock : C) (desk desk' : DeskValue B) (signer signer' : X) (new : Hall L C B X)
-      {A : Type 0} (result : Result A ClockFailed) → desk' ≡ desk → signer' ≡ signer
-      → Told n (hall hearing clock desk' signer') new result → Told n (hall hearing clock desk signer) new result
-  told_from n hearing clock desk desk' signer signer' new result same stays told =
-      let P : DeskValue B → X → Type 0 = λ d x. Told n (hall hearing clock d x) new result in
-      subst (λ x. P desk x) stays (subst (λ d. P d signer') same told)
 
   served_setting : (most n : ℕ) (old new : Hall L C B X) → All most n old new
       → new.others.desk.setting ≡ old.others.desk.setting

@@ -5,6 +5,5 @@ pub mod HeardLemmas
 pub mod MetLemmas
 pub mod PartsLemmas
 pub mod PlacesLemmas
-pub mod ProperLemmas
 pub mod RunLemmas
 pub mod UntoldLemmas

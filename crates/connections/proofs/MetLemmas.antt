@@ -3,22 +3,22 @@ use Rattle.std.proofs.Common.{◌≡◌, ℕ, ◌≤◌, ℤ, pos, ◌<ℤ◌, B
 use Rattle.std.proofs.Common.{T, nat_le, nat_lt, refl, sym, subst}
 use Rattle.std.proofs.lemmas.Bool.{leb-true}
 use Rattle.book.specs.History.{History, CalibrationValue, HoldValue}
-use Rattle.book.specs.Readers as readers
-use Rattle.desk.specs.Command.{Command, Stamp, Deposit, Show, Token, ListAll, Grant, Revoke, Calibrate, Hold}
+use Rattle.desk.specs.Command.{Command, Calibrate, Hold}
 use Rattle.desk.specs.MachineStep.{IsMet}
-use Rattle.policy.specs.Record.{PolicyValue}
-use Rattle.service.specs.Checks.{◌>>=◌, check, account_shown, active_account, operator_shown, watcher_shown}
+use Rattle.policy.specs.Record.{AccountValue, PolicyValue}
+use Rattle.service.specs.Checks.{◌>>=◌, check, operator_shown}
 use Rattle.service.specs.Forms.{calibration_stated, hold_stated, most_uncertainty, fields_counted, field_stated}
 use Rattle.service.specs.Heads.{HeadValue, head_value}
 use Rattle.service.specs.Numbers.{micros_in, signed_in}
-use Rattle.service.specs.Requests.{Asked, Step, Look, Extract, Status, OfAccount, OfReaders, IsRequest, headless}
-use Rattle.service.specs.Requests.{cut_head, refused_head, cut_body, whole, asked_by, calibration_asked, hold_asked}
-use Rattle.service.specs.Requests.{account_and_reference, account_and_number, account_and_range}
+use Rattle.service.specs.Requests.{Asked, Step, Look, IsRequest, headless, cut_head, refused_head, cut_body, whole}
+use Rattle.service.specs.Requests.{asked_by, asked_of, asked_of_deposit, calibration_asked, found_by, hold_asked}
 use Rattle.service.specs.Routes.{parameter}
 use Rattle.service.specs.declared.refusal.Refusal.{Refusal}
 use Rattle.service.specs.declared.refusal.Refusal.TheVariants as refusal
 use Rattle.service.specs.declared.routes.Action.{Action}
 use Rattle.service.specs.declared.routes.Action.TheVariants as action
+use Rattle.service.specs.declared.routes.DepositAction.{DepositAction}
+use Rattle.service.specs.declared.routes.DepositAction.TheVariants as deposit
 
 abbrev IsMetBy : History → Result Asked Refusal → Type 0
 IsMetBy b (Ok (Step c)) = IsMet c b
@@ -87,32 +87,13 @@ hold_lasting form =
     lasting_by (fields_counted 2 form) (field_stated micros_in (codes "from") form)
     (field_stated micros_in (codes "to") form)
 
+of_deposit_met : (account : AccountValue) (number : ℕ) (name : List ℕ) (what : DepositAction) (b : History)
+    → IsMetBy b (Ok (asked_of_deposit account number name what))
+of_deposit_met account number name deposit.Readers b = tt
+of_deposit_met account number name what b = tt
+
 asked_met : (file : PolicyValue) (reading : ℤ) (h : HeadValue) (body : List ℕ) (a : Action) (b : History)
     → IsMetBy b (asked_by file reading h body a)
-asked_met file reading h body action.Stamp b =
-    met_after b (account_shown file h) (λ account. Ok (Step (Stamp account reading body))) (λ account. tt)
-asked_met file reading h body action.Keep b =
-    met_after b (account_and_reference file h) (λ p. Ok (Step (Deposit p.0 reading p.1 body))) (λ p. tt)
-asked_met file reading h body action.List b =
-    met_after b (active_account file h) (λ account. Ok (Step (ListAll account))) (λ account. tt)
-asked_met file reading h body action.Show b =
-    met_after b (account_and_number file h) (λ p. Ok (Step (Show p.0 p.1))) (λ p. tt)
-asked_met file reading h body action.Token b =
-    met_after b (account_and_number file h) (λ p. Ok (Step (Token p.0 p.1))) (λ p. tt)
-asked_met file reading h body action.Grant b =
-    met_after b (account_and_number file h)
-    (λ p. Ok (Step (Grant p.0 p.1 (readers.Account (parameter (codes "name") h.target))))) (λ p. tt)
-asked_met file reading h body action.Revoke b =
-    met_after b (account_and_number file h)
-    (λ p. Ok (Step (Revoke p.0 p.1 (readers.Account (parameter (codes "name") h.target))))) (λ p. tt)
-asked_met file reading h body action.GrantGroup b =
-    met_after b (account_and_number file h)
-    (λ p. Ok (Step (Grant p.0 p.1 (readers.Group (parameter (codes "name") h.target))))) (λ p. tt)
-asked_met file reading h body action.RevokeGroup b =
-    met_after b (account_and_number file h)
-    (λ p. Ok (Step (Revoke p.0 p.1 (readers.Group (parameter (codes "name") h.target))))) (λ p. tt)
-asked_met file reading h body action.Extract b =
-    met_after b (account_and_range file h) (λ p. Ok (Look (Extract p.0 p.1 p.2))) (λ p. tt)
 asked_met file reading h body action.Calibrate b =
     met_behind b (λ c. c.uncertainty ≤ 1_000_000_000_000) (calibration_asked file h body)
     (λ c. Ok (Step (Calibrate c)))
@@ -122,12 +103,12 @@ asked_met file reading h body action.Hold b =
     met_behind b (λ x. x.from <ℤ x.to) (hold_asked file h body) (λ x. Ok (Step (Hold x)))
     (ok_behind (λ x. x.from <ℤ x.to) (operator_shown file h) (hold_stated body) (hold_lasting body))
     (λ x lasting. lasting)
-asked_met file reading h body action.Status b =
-    met_after b (watcher_shown file h) (λ account. Ok (Look Status)) (λ account. tt)
-asked_met file reading h body action.Account b =
-    met_after b (active_account file h) (λ account. Ok (Look (OfAccount account))) (λ account. tt)
-asked_met file reading h body action.Readers b =
-    met_after b (account_and_number file h) (λ p. Ok (Look (OfReaders p.0 p.1))) (λ p. tt)
+asked_met file reading h body (action.Deposit what) b =
+    met_after b (found_by file h body (action.Deposit what))
+    (λ found. Ok (asked_of reading h body (action.Deposit what) found))
+    (λ found. of_deposit_met found.0 found.1 (parameter (codes "name") h.target) what b)
+asked_met file reading h body a b =
+    met_after b (found_by file h body a) (λ found. Ok (asked_of reading h body a found)) (λ found. tt)
 
 -- of a result that is another one's
 met_as : (b : History) (c : Command) (asked : Result Asked Refusal) → Ok (Step c) ≡ asked → IsMetBy b asked → IsMet c b

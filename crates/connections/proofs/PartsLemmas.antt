@@ -57,20 +57,25 @@ module _ {S B X : Type 0} (contents : S → Option (List ℕ)) (g : Ghosts B)
   done_then [] old x mid z more new y same done =
       subst (λ u. Done more old u new y) same.1 (subst (λ d. Done more d z new y) same.0 done)
   done_then (part ∷ parts) old x mid z more new y first done =
-      (first.0, first.1, (first.2.0, done_then parts first.0 first.1 mid z more new y first.2.1 done))
+      record {
+        desk = first.desk;
+        signer = first.signer;
+        first = first.first;
+        rest = done_then parts first.desk first.signer mid z more new y first.rest done;
+      }
 
   pub done_setting : (parts : List (Part S)) (old : DeskValue B) (x : X) (new : DeskValue B) (y : X)
       → Done parts old x new y → new.setting ≡ old.setting
   done_setting [] old x new y done = ap (λ d. d.setting) done.0
   done_setting (alone a ∷ parts) old x new y done =
-      done_setting parts done.0 done.1 new y done.2.1 ∙ done.2.0.setting
+      done_setting parts done.desk done.signer new y done.rest ∙ done.first.setting
   done_setting (together members ∷ parts) old x new y done =
-      done_setting parts done.0 done.1 new y done.2.1 ∙ done.2.0.setting
+      done_setting parts done.desk done.signer new y done.rest ∙ done.first.setting
 
   pub done_honest : (parts : List (Part S)) (old : DeskValue B) (x : X) (new : DeskValue B) (y : X)
       → Done parts old x new y → g.honest new.store → g.honest old.store
   done_honest [] old x new y done honest = subst (λ d. g.honest d.store) done.0 honest
   done_honest (alone a ∷ parts) old x new y done honest =
-      done.2.0.honest (done_honest parts done.0 done.1 new y done.2.1 honest)
+      done.first.honest (done_honest parts done.desk done.signer new y done.rest honest)
   done_honest (together members ∷ parts) old x new y done honest =
-      done.2.0.honest (done_honest parts done.0 done.1 new y done.2.1 honest)
+      done.first.honest (done_honest parts done.desk done.signer new y done.rest honest)

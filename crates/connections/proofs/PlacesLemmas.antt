@@ -10,10 +10,12 @@ use Rattle.std.proofs.lemmas.List.Elements.{length_all_zip}
 use Rattle.std.specs.List.{AllByRecursion}
 use Rattle.std.proofs.lemmas.Bool.{false≢true}
 use Rattle.std.specs.Io.KnownBytes.{Consumes, IsAtEnd}
-use Rattle.service.specs.Received.{ReceivedValue, Receives, is_open}
-use Rattle.connections.specs.Places.{Place, IsReadOn, AreReadOn, IsTakenOut, IsUnread, AreAdded, IsAdded, AreWaitedFor}
-use Rattle.connections.specs.Places.{HandsOut, FailsOne, IsUnfinished, IsWholeAt}
-use Rattle.connections.specs.Waiting.{place_of}
+use Rattle.service.specs.Received.{Receives}
+use Rattle.connections.specs.Acceptor.{came, AreTold, IsRefused}
+use Rattle.connections.specs.Places.{Place, Intake, IsReadOn, AreReadOn, IsTakenOut, IsUnread, AreAdded, AreWaitedFor}
+use Rattle.connections.specs.Places.{AreRounds, DropsOne, GivesOne, GivesWay, FailsOne, IsFailure}
+use Rattle.connections.specs.Places.{IsUnfinished, IsWhole, IsWholeAt, most_places, most_rounds, refused, unfinished, unheard}
+use Rattle.connections.specs.Waiting.{place_of, ComesOf}
 use Rattle.connections.specs.declared.waiting.Waiting.{Waiting}
 
 all_then : {A : Type 0} (P : A → Type 0) (xs ys : List A) → AllByRecursion P xs → AllByRecursion P ys
@@ -21,28 +23,101 @@ all_then : {A : Type 0} (P : A → Type 0) (xs ys : List A) → AllByRecursion P
 all_then P [] ys all more = more
 all_then P (x ∷ xs) ys all more = (all.0, all_then P xs ys all.1 more)
 
-module _ {S : Type 0} (most : ℕ) where
-  pub none_added : (old : List (Place S)) → AreAdded most old old
-  none_added old = record { taken = []; unread = tt; behind = sym (append-nil old); few = inl refl }
+-- what was told, one after the other
+came_then : {S : Type 0} (told more : List (Option S)) → came (told ++ more) ≡ came told ++ came more
+came_then [] more = refl
+came_then (Some stream ∷ told) more = ap (λ all. stream ∷ all) (came_then told more)
+came_then (None ∷ told) more = came_then told more
 
-  pub one_added : (old mid new : List (Place S)) → AreAdded most old mid → length mid < most → IsAdded mid new
-      → AreAdded most old new
-  one_added old mid new added fewer more =
-      let one = more.0 in
-      record {
-        taken = added.taken ++ (one ∷ []);
-        unread = all_then IsUnread added.taken (one ∷ []) added.unread (more.1.0, tt);
-        behind = more.1.1
-            ∙ (ap (λ xs. xs ++ (one ∷ [])) added.behind ∙ append_assoc old added.taken (one ∷ []));
-        few = inr (omega (arith, fewer, ap length more.1.1, length-append mid (one ∷ [])));
-      }
+told_then : {A S : Type 0} (tells : A → Option S → A → Type 0) (old mid new : A) (told more : List (Option S))
+    → AreTold tells old told mid → AreTold tells mid more new → AreTold tells old (told ++ more) new
+told_then tells old mid new [] more same rest = subst (λ a. AreTold tells a more new) same rest
+told_then tells old mid new (one ∷ told) more first rest =
+    (first.0, (first.1.0, told_then tells first.0 mid new told more first.1.1 rest))
 
-  pub more_added : (few : ℕ) (old new : List (Place S)) → few ≤ most → AreAdded few old new → AreAdded most old new
-  more_added few old new within added = record {
-    taken = added.taken;
-    unread = added.unread;
-    behind = added.behind;
-    few = elim added.few [ inl none ↦ inl none | inr these ↦ inr (omega (arith, within, these)) ];
+-- those that get places
+module _ {A S : Type 0} (tells : A → Option S → A → Type 0) (most : ℕ) where
+  abbrev Added : Intake A S → Intake A S → Type 0
+  Added = AreAdded tells most
+
+  pub none_added : (old : Intake A S) → Added old old
+  none_added old = record {
+    told = [];
+    asked = refl;
+    taken = [];
+    unread = tt;
+    are = refl;
+    behind = sym (append-nil old.places);
+    few = inl refl;
+  }
+
+  few_then : (first second : List (Place S)) (between mid last : List (Place S)) → length between ≡ length mid
+      → last ≡ mid ++ second → ((first ≡ []) ⊎ ((length between ≤ most) × (length between ≤ most_places)))
+      → ((second ≡ []) ⊎ ((length last ≤ most) × (length last ≤ most_places)))
+      → ((first ++ second ≡ []) ⊎ ((length (between ++ second) ≤ most) × (length (between ++ second) ≤ most_places)))
+  few_then first second between mid last long is (inl none) (inl nothing) =
+      inl (ap (λ xs. xs ++ second) none ∙ nothing)
+  few_then first second between mid last long is (inr few) (inl nothing) =
+      inr (
+        omega (arith, few.0, length-append between second, ap length nothing),
+        omega (arith, few.1, length-append between second, ap length nothing),
+      )
+  few_then first second between mid last long is start (inr few) =
+      inr (
+        omega (arith, few.0, long, ap length is, length-append between second, length-append mid second),
+        omega (arith, few.1, long, ap length is, length-append between second, length-append mid second),
+      )
+
+  -- more of them, behind those that were read on
+  added_behind : (old first mid second : Intake A S) → Added old first → length first.places ≡ length mid.places
+      → mid.acceptor ≡ first.acceptor → (more : Added mid second)
+      → Added old (record { acceptor = second.acceptor; places = first.places ++ more.taken })
+  added_behind old first mid second added long same more = record {
+    told = added.told ++ more.told;
+    asked = told_then tells old.acceptor first.acceptor second.acceptor added.told more.told added.asked
+        (subst (λ a. AreTold tells a more.told second.acceptor) same more.asked);
+    taken = added.taken ++ more.taken;
+    unread = all_then IsUnread added.taken more.taken added.unread more.unread;
+    are = map-append (λ p. p.stream) added.taken more.taken
+        ∙ (ap (λ xs. xs ++ map (λ p. p.stream) more.taken) added.are
+        ∙ (ap (λ xs. came added.told ++ xs) more.are ∙ sym (came_then added.told more.told)));
+    behind = ap (λ xs. xs ++ more.taken) added.behind ∙ append_assoc old.places added.taken more.taken;
+    few = few_then added.taken more.taken first.places mid.places second.places long more.behind added.few more.few;
+  }
+
+  pub added_then : (old mid new : Intake A S) → Added old mid → Added mid new → Added old new
+  added_then old mid new first second =
+      subst (λ all. Added old (record { acceptor = new.acceptor; places = all })) (sym second.behind)
+      (added_behind old mid mid new first refl refl second)
+
+  -- none came
+  pub none_came : (old new : Intake A S) → tells old.acceptor None new.acceptor → new.places ≡ old.places
+      → Added old new
+  none_came old new told same = record {
+    told = None ∷ [];
+    asked = (new.acceptor, (told, refl));
+    taken = [];
+    unread = tt;
+    are = refl;
+    behind = same ∙ sym (append-nil old.places);
+    few = inl refl;
+  }
+
+  -- one came
+  pub one_came : (old new : Intake A S) (one : Place S) → tells old.acceptor (Some one.stream) new.acceptor
+      → IsUnread one → new.places ≡ old.places ++ (one ∷ []) → length old.places < most
+      → length old.places < most_places → Added old new
+  one_came old new one told unread behind fewer few = record {
+    told = Some one.stream ∷ [];
+    asked = (new.acceptor, (told, refl));
+    taken = one ∷ [];
+    unread = (unread, tt);
+    are = refl;
+    behind = behind;
+    few = inr (
+      omega (arith, fewer, ap length behind, length-append old.places (one ∷ [])),
+      omega (arith, few, ap length behind, length-append old.places (one ∷ [])),
+    );
   }
 
 -- nothing comes behind the end
@@ -140,109 +215,134 @@ module _ {S : Type 0} (remaining : S → Option (List ℕ)) where
       (subst (λ p. IsReadOn remaining p (place_of one))
       (sym (get_or-map place_of mid place other (place_of other) within)) next))
 
-  module _ (most : ℕ) where
-    abbrev Waits : List (Place S) → List (Place S) → Type 0
-    Waits = AreWaitedFor remaining most
+module _ {A S : Type 0} (tells : A → Option S → A → Type 0) (fails : A → A → Type 0) (remaining : S → Option (List ℕ))
+    (most : ℕ) where
+  abbrev Waits : Intake A S → Intake A S → Type 0
+  Waits = AreWaitedFor tells remaining most
 
-    pub waits_none : (old : List (Place S)) → Waits old old
-    waits_none old = record { between = old; added = none_added most old; read = all_still old }
+  abbrev Fails : Intake A S → Intake A S → Type 0
+  Fails = FailsOne tells fails remaining most
 
-    pub waits_added : (old new : List (Place S)) → AreAdded most old new → Waits old new
-    waits_added old new added = record { between = new; added = added; read = all_still new }
-
-    pub waits_same : (old new : List (Place S)) → new ≡ old → Waits old new
-    waits_same old new same = subst (λ all. Waits old all) (sym same) (waits_none old)
-
-    pub waits_one : (old new : List (Place S)) → length old < most → IsAdded old new → Waits old new
-    waits_one old new fewer more = waits_added old new (one_added most old old new (none_added most old) fewer more)
-
-    pub waits_read : (old mid new : List (Place S)) → Waits old mid → Read mid new → Waits old new
-    waits_read old mid new waits read = record {
-      between = waits.between;
-      added = waits.added;
-      read = all_then_read waits.between mid new waits.read read;
-    }
-
-    few_then : (first second : List (Place S)) (between mid last : List (Place S)) → length between ≡ length mid
-        → last ≡ mid ++ second → ((first ≡ []) ⊎ (length between ≤ most)) → ((second ≡ []) ⊎ (length last ≤ most))
-        → ((first ++ second ≡ []) ⊎ (length (between ++ second) ≤ most))
-    few_then first second between mid last long is (inl none) (inl nothing) =
-        inl (ap (λ xs. xs ++ second) none ∙ nothing)
-    few_then first second between mid last long is (inr few) (inl nothing) =
-        inr (omega (arith, few, length-append between second, ap length nothing))
-    few_then first second between mid last long is start (inr few) =
-        inr (omega (arith, few, long, ap length is, length-append between second, length-append mid second))
-
-    pub waits_then : (old mid new : List (Place S)) → Waits old mid → Waits mid new → Waits old new
-    waits_then old mid new first second =
-        let more = second.added.taken in
-        let read : Read (first.between ++ more) second.between =
-        subst (λ all. Read (first.between ++ more) all) (sym second.added.behind)
-        (all_behind first.between mid more first.read) in
-        record {
-          between = first.between ++ more;
-          added = record {
-            taken = first.added.taken ++ more;
-            unread = all_then IsUnread first.added.taken more first.added.unread second.added.unread;
-            behind = ap (λ xs. xs ++ more) first.added.behind ∙ append_assoc old first.added.taken more;
-            few = few_then first.added.taken more first.between mid second.between
-                (length_all_zip (IsReadOn remaining) first.between mid first.read) second.added.behind first.added.few
-                second.added.few;
-          };
-          read = all_then_read (first.between ++ more) second.between new read second.read;
-        }
-
-    -- what comes behind
-    module _ (old mid : List (Place S)) (waits : Waits old mid) where
-      pub hands_behind : (received : ReceivedValue) (stream : S) (new : List (Place S))
-          → HandsOut remaining None mid received stream new → HandsOut remaining (Some most) old received stream new
-      hands_behind received stream new hands = record {
-        last = hands.last;
-        heard = waits_read old mid hands.last waits hands.heard;
-        whole = hands.whole;
-        place = hands.place;
-        out = hands.out;
-      }
-
-      pub hands_later : (received : ReceivedValue) (stream : S) (new : List (Place S))
-          → HandsOut remaining (Some most) mid received stream new
-          → HandsOut remaining (Some most) old received stream new
-      hands_later received stream new hands = record {
-        last = hands.last;
-        heard = waits_then old mid hands.last waits hands.heard;
-        whole = hands.whole;
-        place = hands.place;
-        out = hands.out;
-      }
-
-      pub fails_behind : (new : List (Place S)) → FailsOne remaining None mid new → FailsOne remaining (Some most) old new
-      fails_behind new fails = record {
-        last = fails.last;
-        heard = waits_read old mid fails.last waits fails.heard;
-        out = fails.out;
-      }
-
-      pub fails_later : (new : List (Place S)) → FailsOne remaining (Some most) mid new
-          → FailsOne remaining (Some most) old new
-      fails_later new fails = record {
-        last = fails.last;
-        heard = waits_then old mid fails.last waits fails.heard;
-        out = fails.out;
-      }
-
-      pub fails_here : FailsOne remaining (Some most) old mid
-      fails_here = record { last = mid; heard = waits; out = inl refl }
-
-  pub hands_read : (old mid : List (Place S)) → Read old mid → (received : ReceivedValue) (stream : S)
-      (new : List (Place S)) → HandsOut remaining None mid received stream new
-      → HandsOut remaining None old received stream new
-  hands_read old mid read received stream new hands = record {
-    last = hands.last;
-    heard = all_then_read old mid hands.last read hands.heard;
-    whole = hands.whole;
-    place = hands.place;
-    out = hands.out;
+  pub waits_added : (old new : Intake A S) → AreAdded tells most old new → Waits old new
+  waits_added old new added = record {
+    between = new;
+    added = added;
+    read = all_still remaining new.places;
+    same = refl;
   }
+
+  pub waits_none : (old : Intake A S) → Waits old old
+  waits_none old = waits_added old old (none_added tells most old)
+
+  pub waits_read : (old mid new : Intake A S) → Waits old mid → AreReadOn remaining mid.places new.places
+      → new.acceptor ≡ mid.acceptor → Waits old new
+  waits_read old mid new waits read same = record {
+    between = waits.between;
+    added = waits.added;
+    read = all_then_read remaining waits.between.places mid.places new.places waits.read read;
+    same = same ∙ waits.same;
+  }
+
+  pub waits_same : (old mid new : Intake A S) → Waits old mid → new.acceptor ≡ mid.acceptor
+      → new.places ≡ mid.places → Waits old new
+  waits_same old mid new waits same places =
+      waits_read old mid new waits
+      (subst (λ all. AreReadOn remaining mid.places all) (sym places) (all_still remaining mid.places)) same
+
+  pub waits_then : (old mid new : Intake A S) → Waits old mid → Waits mid new → Waits old new
+  waits_then old mid new first second =
+      let start = first.between in
+      let more = second.added.taken in
+      let read : AreReadOn remaining (start.places ++ more) second.between.places =
+      subst (λ all. AreReadOn remaining (start.places ++ more) all) (sym second.added.behind)
+      (all_behind remaining start.places mid.places more first.read) in
+      record {
+        between = record { acceptor = second.between.acceptor; places = start.places ++ more };
+        added = added_behind tells most old start mid second.between first.added
+            (length_all_zip (IsReadOn remaining) start.places mid.places first.read) first.same second.added;
+        read = all_then_read remaining (start.places ++ more) second.between.places new.places read second.read;
+        same = second.same;
+      }
+
+  abbrev Rounds : ℕ → Intake A S → Intake A S → Type 0
+  Rounds rounds = AreRounds tells remaining rounds most
+
+  pub rounds_none : (old : Intake A S) → Rounds 0 old old
+  rounds_none old = (waits_none old, omega arith)
+
+  told_all : (old mid new : Intake A S) (first : Waits old mid) (second : Waits mid new)
+      → length (waits_then old mid new first second).added.told
+      ≡ length first.added.told + length second.added.told
+  unfolding waits_then added_behind
+  told_all old mid new first second = length-append first.added.told second.added.told
+
+  pub rounds_then : (n : ℕ) (old mid new : Intake A S) → Rounds n old mid → Rounds 1 mid new → Rounds (n + 1) old new
+  rounds_then n old mid new first second = (
+    waits_then old mid new first.0 second.0,
+    omega (arith, first.1, second.1, told_all old mid new first.0 second.0),
+  )
+
+  pub round_told : (old mid new : Intake A S) → Waits old mid → tells mid.acceptor None new.acceptor
+      → new.places ≡ mid.places → Rounds 1 old new
+  unfolding waits_added none_came
+  round_told old mid new waits told same =
+      let more : Waits mid new = waits_added mid new (none_came tells most mid new told same) in
+      let once : length more.added.told ≡ 1 = refl in
+      (waits_then old mid new waits more, omega (arith, once, told_all old mid new waits more))
+
+  -- one fails
+  pub fails_refused : (old last new : Intake A S) → Waits old last → IsRefused tells fails last.acceptor new.acceptor
+      → new.places ≡ last.places → Fails old new
+  fails_refused old last new waits is same = record { last = last; heard = waits; cause = refused is same }
+
+  pub fails_unfinished : (old last new : Intake A S) (rest : List (Place S)) → Waits old last
+      → DropsOne remaining last.places rest
+      → AreAdded tells most (record { acceptor = last.acceptor; places = rest }) new → Fails old new
+  fails_unfinished old last new rest waits drops added =
+      record { last = last; heard = waits; cause = unfinished rest drops added }
+
+  pub fails_unheard : (n : ℕ) (old new : Intake A S) → Rounds n old new → most_rounds ≤ n → Fails old new
+  fails_unheard n old new rounds all = record {
+    last = new;
+    heard = rounds.0;
+    cause = unheard (omega (arith, all, rounds.1)) refl;
+  }
+
+  failure_later : (n k : ℕ) (old new : Intake A S) → n ≤ k → IsFailure tells fails remaining most n old new
+      → IsFailure tells fails remaining most k old new
+  failure_later n k old new more (refused is same) = refused is same
+  failure_later n k old new more (unfinished rest drops added) = unfinished rest drops added
+  failure_later n k old new more (unheard all same) = unheard (omega (arith, all, more)) same
+
+  -- what comes behind
+  pub comes_later : (old mid new : Intake A S) → Waits old mid → (done : Option (Waiting S))
+      → ComesOf tells fails remaining most mid done new → ComesOf tells fails remaining most old done new
+  comes_later old mid new waits None later = record {
+    last = later.last;
+    heard = waits_then old mid later.last waits later.heard;
+    cause = failure_later (length later.heard.added.told)
+        (length (waits_then old mid later.last waits later.heard).added.told) later.last new
+        (omega (arith, told_all old mid later.last waits later.heard)) later.cause;
+  }
+  comes_later old mid new waits (Some one) later = record {
+    last = later.last;
+    heard = waits_then old mid later.last waits later.heard;
+    given = later.given;
+    same = later.same;
+  }
+
+  -- what comes of those that have places
+  pub comes_done : (old mid new : Intake A S) → Waits old mid → new.acceptor ≡ mid.acceptor
+      → (done : Option (Waiting S))
+      → MatchOption done (DropsOne remaining mid.places new.places)
+      (λ one. GivesOne remaining mid.places one.request one.peer.stream new.places)
+      → ComesOf tells fails remaining most old done new
+  comes_done old mid new waits same None drops =
+      fails_unfinished old mid new new.places waits drops
+      (subst (λ a. AreAdded tells most (record { acceptor = a; places = new.places }) new) same
+      (none_added tells most new))
+  comes_done old mid new waits same (Some one) gives =
+      record { last = mid; heard = waits; given = gives; same = same }
 
 -- one read
 pub one_read : {S E : Type 0} (remaining : S → Option (List ℕ)) (old new : Place S) (read : Result (Unit {0}) E)
@@ -287,49 +387,18 @@ module _ {S : Type 0} (place : ℕ) (one : Place S) (all new : List (Place S)) (
       ∙ (ap (λ n. get_or (out.before ++ (one ∷ out.behind)) n one) (sym out.there)
       ∙ get_or-append_seam out.before one out.behind one)
 
-  pub whole_taken : IsWholeAt place true all → is_open one.received ≡ false
-  whole_taken whole = subst (λ p. is_open p.received ≡ false) taken_is (whole.whole refl one)
+  pub whole_taken : IsWholeAt place true all → IsWhole one.received
+  whole_taken whole = subst (λ p. IsWhole p.received) taken_is (whole.whole refl one)
 
   pub unfinished_taken : IsWholeAt place false all → IsUnfinished one.received
   unfinished_taken whole = subst (λ p. IsUnfinished p.received) taken_is (whole.unfinished refl one)
 
--- one is taken out that isn't whole, or there is none
-pub fails_removed : {W S : Type 0} (remaining : S → Option (List ℕ)) (place_of : W → Place S) (most : ℕ)
-    (old mid new : List (Place S)) → AreWaitedFor remaining most old mid → (place : ℕ) → IsWholeAt place false mid
-    → (removed : Option W) → MatchOption removed (new ≡ mid) (λ one. IsTakenOut place (place_of one) mid new)
-    → FailsOne remaining (Some most) old new
-fails_removed remaining place_of most old mid new waits place cut None same =
-    record { last = mid; heard = waits; out = inl same }
-fails_removed remaining place_of most old mid new waits place cut (Some one) out = record {
-  last = mid;
-  heard = waits;
-  out = inr (place, place_of one, out, unfinished_taken place (place_of one) mid new out cut);
-}
-
--- the first stays where it is
-first_of : {A : Type 0} (all more : List A) (other : A) → 0 < length all
-    → get_or (all ++ more) 0 other ≡ get_or all 0 other
-first_of [] more other within = absurd (omega (arith, within))
-first_of (x ∷ all) more other within = refl
-
-pub cut_behind : {S : Type 0} (all new : List (Place S)) → IsWholeAt 0 false all → IsAdded all new
-    → IsWholeAt 0 false new
-cut_behind all new cut added =
-    let more = added.0 ∷ [] in
-    record {
-      within = omega (arith, cut.within, ap length added.1.1, length-append all more);
-      whole = λ whole. absurd (false≢true whole);
-      unfinished = λ told other. subst (λ p. IsUnfinished p.received)
-          (sym (ap (λ xs. get_or xs 0 other) added.1.1 ∙ first_of all more other cut.within))
-          (cut.unfinished told other);
-    }
-
 -- the one that was read last is whole, or isn't
 pub whole_at : {W S : Type 0} (place_of : W → Place S) (mid : List W) (place : ℕ) (one : W) (is_whole : Bool)
-    → place < length mid → (is_whole ≡ true → is_open (place_of one).received ≡ false)
+    → place < length mid → (is_whole ≡ true → IsWhole (place_of one).received)
     → (is_whole ≡ false → IsUnfinished (place_of one).received)
     → IsWholeAt place is_whole (map place_of (set mid place one))
-whole_at {W} {S} place_of mid place one is_whole within whole unfinished =
+whole_at {W} {S} place_of mid place one is_whole within whole cut =
     let there : length (map place_of (set mid place one)) ≡ length mid =
     ap length (map-set place_of mid place one) ∙ (length-set (map place_of mid) place (place_of one)
     ∙ length-map mid place_of) in
@@ -338,8 +407,8 @@ whole_at {W} {S} place_of mid place one is_whole within whole unfinished =
     ∙ get_or-set_same (map place_of mid) place (place_of one) other (omega (arith, within, length-map mid place_of))) in
     record {
       within = omega (arith, within, there);
-      whole = λ told other. subst (λ p. is_open p.received ≡ false) (is other) (whole told);
-      unfinished = λ told other. subst (λ p. IsUnfinished p.received) (is other) (unfinished told);
+      whole = λ told other. subst (λ p. IsWhole p.received) (is other) (whole told);
+      unfinished = λ told other. subst (λ p. IsUnfinished p.received) (is other) (cut told);
     }
 
 -- one of them is read once more
@@ -359,82 +428,80 @@ heard_same items i one was received stream =
     map-set_same place_of items i one was (λ j. record { received = received j; stream = stream j })
 
 -- what comes of a place that is given up
-module _ {S : Type 0} (remaining : S → Option (List ℕ)) (old mid : List (Place S)) (read : AreReadOn remaining old mid)
-  where
-    module _ (new : List (Place S)) (place : ℕ) where
-      abbrev Removed : Option (Waiting S) → Type 0
-      Removed removed = MatchOption removed (new ≡ mid) (λ one. IsTakenOut place (place_of one) mid new)
+module _ {S : Type 0} (remaining : S → Option (List ℕ)) (old mid new : List (Place S)) (read : AreReadOn remaining old mid)
+    (place : ℕ) (one : Waiting S) (out : IsTakenOut place (place_of one) mid new) where
+  pub gives_whole : IsWholeAt place true mid → GivesOne remaining old one.request one.peer.stream new
+  gives_whole whole = record {
+    last = mid;
+    read = read;
+    place = place;
+    out = out;
+    whole = whole_taken place (place_of one) mid new out whole;
+  }
 
-      hands_whole : (one : Waiting S) → IsWholeAt place true mid → IsTakenOut place (place_of one) mid new
-          → HandsOut remaining None old one.request one.peer.stream new
-      hands_whole one whole out = record {
-        last = mid;
-        heard = read;
-        whole = whole_taken place (place_of one) mid new out whole;
-        place = place;
-        out = out;
-      }
+  pub drops_unfinished : IsWholeAt place false mid → DropsOne remaining old new
+  drops_unfinished cut = record {
+    last = mid;
+    read = read;
+    place = place;
+    one = place_of one;
+    out = out;
+    unfinished = unfinished_taken place (place_of one) mid new out cut;
+  }
 
-      pub taken_whole : IsWholeAt place true mid → (removed : Option (Waiting S)) → Removed removed
-          → MatchOption removed (AreReadOn remaining old new)
-          (λ one. HandsOut remaining None old one.request one.peer.stream new)
-      taken_whole whole None same = subst (λ all. AreReadOn remaining old all) (sym same) read
-      taken_whole whole (Some one) out = hands_whole one whole out
+-- the first gives way
+pub drops_first : {S : Type 0} (remaining : S → Option (List ℕ)) (old new : List (Place S)) (one : Place S)
+    → IsWholeAt 0 false old → (way : GivesWay one old new) → DropsOne remaining old way.1
+drops_first remaining old new one cut way = record {
+  last = old;
+  read = all_still remaining old;
+  place = 0;
+  one = way.0;
+  out = way.2;
+  unfinished = unfinished_taken 0 way.0 old way.1 way.2 cut;
+}
 
-      pub given_or_failed : IsWholeAt place true mid → (removed : Option (Waiting S)) → Removed removed
-          → MatchOption removed (FailsOne remaining None old new)
-          (λ one. HandsOut remaining None old one.request one.peer.stream new)
-      given_or_failed whole None same = record { last = mid; heard = read; out = inl same }
-      given_or_failed whole (Some one) out = hands_whole one whole out
+pub gives_way : {W S : Type 0} (place_of : W → Place S) (items : List W) (one : W) → 0 < length items
+    → GivesWay (place_of one) (map place_of items)
+    (map place_of (drop 1 (set items 0 one) ++ take 1 (set items 0 one)))
+gives_way place_of [] one within = absurd (omega (arith, within))
+gives_way place_of (first ∷ items) one within = (
+  place_of first,
+  map place_of items,
+  record { before = []; behind = map place_of items; stood = refl; there = refl; stay = refl },
+  map-append place_of items (one ∷ []),
+)
 
-      pub only_failed : IsWholeAt place false mid → (removed : Option (Waiting S)) → Removed removed
-          → FailsOne remaining None old new
-      only_failed cut None same = record { last = mid; heard = read; out = inl same }
-      only_failed cut (Some one) out = record {
-        last = mid;
-        heard = read;
-        out = inr (place, place_of one, out, unfinished_taken place (place_of one) mid new out cut);
-      }
+-- the acceptor gave the one that gets the first's place
+pub given_way : {A S : Type 0} (tells : A → Option S → A → Type 0) (most : ℕ) (old new : Intake A S) (one : Place S)
+    → (way : GivesWay one old.places new.places) → tells old.acceptor (Some one.stream) new.acceptor → IsUnread one
+    → length old.places ≡ most_places → length old.places < most
+    → AreAdded tells most (record { acceptor = old.acceptor; places = way.1 }) new
+given_way tells most old new one way told unread full few =
+    let out = way.2 in
+    let fewer : length way.1 + 1 ≡ length old.places =
+    omega (
+      arith,
+      ap length out.stood,
+      length-append out.before (way.0 ∷ out.behind),
+      ap length out.stay,
+      length-append out.before out.behind,
+    ) in
+    one_came tells most (record { acceptor = old.acceptor; places = way.1 }) new one told unread way.3
+    (omega (arith, fewer, few)) (omega (arith, fewer, full))
 
-    pub whole_behind : (new : List (Place S)) (taken : Option (Waiting S))
-        → MatchOption taken (AreReadOn remaining mid new)
-        (λ one. HandsOut remaining None mid one.request one.peer.stream new)
-        → MatchOption taken (AreReadOn remaining old new)
-        (λ one. HandsOut remaining None old one.request one.peer.stream new)
-    whole_behind new None more = all_then_read remaining old mid new read more
-    whole_behind new (Some one) hands = hands_read remaining old mid read one.request one.peer.stream new hands
-
-pub done_behind : {S : Type 0} (remaining : S → Option (List ℕ)) (most : ℕ) (old mid new : List (Place S))
-    → AreWaitedFor remaining most old mid → (done : Option (Waiting S))
-    → MatchOption done (FailsOne remaining None mid new)
-    (λ one. HandsOut remaining None mid one.request one.peer.stream new)
-    → MatchOption done (FailsOne remaining (Some most) old new)
-    (λ one. HandsOut remaining (Some most) old one.request one.peer.stream new)
-done_behind remaining most old mid new waits None fails = fails_behind remaining most old mid waits new fails
-done_behind remaining most old mid new waits (Some one) hands =
-    hands_behind remaining most old mid waits one.request one.peer.stream new hands
-
-pub done_later : {S : Type 0} (remaining : S → Option (List ℕ)) (most : ℕ) (old mid new : List (Place S))
-    → AreWaitedFor remaining most old mid → (done : Option (Waiting S))
-    → MatchOption done (FailsOne remaining (Some most) mid new)
-    (λ one. HandsOut remaining (Some most) mid one.request one.peer.stream new)
-    → MatchOption done (FailsOne remaining (Some most) old new)
-    (λ one. HandsOut remaining (Some most) old one.request one.peer.stream new)
-done_later remaining most old mid new waits None fails = fails_later remaining most old mid waits new fails
-done_later remaining most old mid new waits (Some one) hands =
-    hands_later remaining most old mid waits one.request one.peer.stream new hands
-
--- a round of a wait: some are taken, all are read on, some more are taken
-module _ {S : Type 0} (remaining : S → Option (List ℕ)) (most few : ℕ) (old taken : List (Place S)) (within : few ≤ most)
-    (added : AreAdded few old taken) where
-  pub round_taken : AreWaitedFor remaining most old taken
-  round_taken = waits_added remaining most old taken (more_added most few old taken within added)
-
-  pub round_read : (read : List (Place S)) → AreReadOn remaining taken read → AreWaitedFor remaining most old read
-  round_read read on = waits_read remaining most old taken read round_taken on
-
-  pub round_added : (read given last : List (Place S)) → AreReadOn remaining taken read → AreAdded most read given
-      → last ≡ given → AreWaitedFor remaining most old last
-  round_added read given last on more same =
-      subst (λ all. AreWaitedFor remaining most old all) (sym same)
-      (waits_then remaining most old read given (round_read read on) (waits_added remaining most read given more))
+-- those that are read on before one is given
+pub given_behind : {S : Type 0} (remaining : S → Option (List ℕ)) (old mid new : List (Place S))
+    → AreReadOn remaining old mid → (taken : Option (Waiting S))
+    → MatchOption taken (AreReadOn remaining mid new)
+    (λ one. GivesOne remaining mid one.request one.peer.stream new)
+    → MatchOption taken (AreReadOn remaining old new)
+    (λ one. GivesOne remaining old one.request one.peer.stream new)
+given_behind remaining old mid new read None more = all_then_read remaining old mid new read more
+given_behind remaining old mid new read (Some one) gives = record {
+  last = gives.last;
+  read = all_then_read remaining old mid gives.last read gives.read;
+  place = gives.place;
+  out = gives.out;
+  whole = gives.whole;
+}

@@ -150,7 +150,7 @@ left_together : {B : Type 0} (g : Ghosts B) (s : Setting) (batch : Batch) (later
     (oss : List (List Outcome)) (b mid last : History) (old between : B) (left : g.Left)
     → Arrives s (stamps_for batch.asked) batch.outcomes b mid
     → (g.leaves between left
-    → MayBeLeftTogether g s batch.asked batch.outcomes batch.reserving batch.sealing b old mid left)
+    → MayBeLeftTogether g s batch.asked batch.outcomes batch.answers b old mid left)
     → MayBeLeftAlong g s later oss mid between last left
     → MayBeLeftAlong g s (at_once batch ∷ later) (batch.outcomes ∷ oss) b old last left
 left_together g s batch later oss b mid last old between left arrives batch_leaves (inl same) =
@@ -363,12 +363,12 @@ module _ {B X : Type 0} (g : Ghosts B) (signs : X → List ℕ → Result (List 
         (done : Done parts old x new y) → AreMetAnywhere (commands_of (Along parts old x new y done))
     met_along law [] old x new y done = tt
     met_along law (alone a ∷ parts) old x new y done =
-        met_in law (commands_of (Along parts done.0 done.1 new y done.2.1))
-        (met_along law parts done.0 done.1 new y done.2.1) a.handed.reading (turn g signs count old x done.0 done.1)
-        a.exchanged.served (done.2.0.serves None None tt (λ ended taken. tt))
+        met_in law (commands_of (Along parts done.desk done.signer new y done.rest))
+        (met_along law parts done.desk done.signer new y done.rest) a.handed.reading
+        (turn g signs count old x done.desk done.signer) a.exchanged.served (done.first.serves None None tt (λ ended taken. tt))
     met_along law (together members ∷ parts) old x new y done =
-        met_stamps (map (λ m. m.question) members) (commands_of (Along parts done.0 done.1 new y done.2.1))
-        (met_along law parts done.0 done.1 new y done.2.1)
+        met_stamps (map (λ m. m.question) members) (commands_of (Along parts done.desk done.signer new y done.rest))
+        (met_along law parts done.desk done.signer new y done.rest)
 
     -- where what was told leads, from a history that the store stood for
     record Reaches (s : Setting) (all : List Stretch) (b : History) (old : B) (x : X) (new : DeskValue B) (y : X) : Type 0
@@ -458,8 +458,7 @@ module _ {B X : Type 0} (g : Ghosts B) (signs : X → List ℕ → Result (List 
           }
 
       batches : OneEffect → (batch : Batch)
-          → RunsTogether g signs old.setting batch.asked batch.outcomes batch.reserving batch.sealing batch.answers b
-          old.store x next.store z
+          → RunsTogether g signs old.setting batch.asked batch.outcomes batch.answers b old.store x next.store z
           → AreMetAnywhere (commands_of later) → Reaches old.setting (at_once batch ∷ later) b old.store x new y
       batches one batch t met =
           let s = old.setting in
@@ -538,22 +537,20 @@ module _ {B X : Type 0} (g : Ghosts B) (signs : X → List ℕ → Result (List 
       };
     }
     run_along disturb one (alone a ∷ parts) old x new y done honest b stood met =
-        serves disturb old done.0 x done.1 new y done.2.0.setting
-        (done_honest untold g signs count parts done.0 done.1 new y done.2.1 honest)
-        (Along parts done.0 done.1 new y done.2.1)
-        (run_along disturb one parts done.0 done.1 new y done.2.1 honest) b stood a.handed.reading a.exchanged.served
-        (done.2.0.serves None None tt (λ ended taken. tt)) met
+        serves disturb old done.desk x done.signer new y done.first.setting
+        (done_honest untold g signs count parts done.desk done.signer new y done.rest honest)
+        (Along parts done.desk done.signer new y done.rest)
+        (run_along disturb one parts done.desk done.signer new y done.rest honest) b stood a.handed.reading a.exchanged.served
+        (done.first.serves None None tt (λ ended taken. tt)) met
     run_along disturb one (together members ∷ parts) old x new y done honest b stood met =
-        let later = Along parts done.0 done.1 new y done.2.1 in
-        let before = done_honest untold g signs count parts done.0 done.1 new y done.2.1 honest in
-        let t = done.2.0.answered in
-        batches disturb old done.0 x done.1 new y done.2.0.setting before later
-        (run_along disturb one parts done.0 done.1 new y done.2.1 honest) b stood one (record {
+        let later = Along parts done.desk done.signer new y done.rest in
+        let before = done_honest untold g signs count parts done.desk done.signer new y done.rest honest in
+        let t = done.first.answered in
+        batches disturb old done.desk x done.signer new y done.first.setting before later
+        (run_along disturb one parts done.desk done.signer new y done.rest honest) b stood one (record {
           asked = map (λ m. m.question) members;
           answers = map (λ m. m.reply) members;
           outcomes = t.outcomes;
-          reserving = t.reserving;
-          sealing = t.sealing;
         }) (t.run before b stood) (met_behind (map (λ m. m.question) members) (commands_of later) met)
 
 module _ {C B X : Type 0} (reads : C → Result ℤ ClockFailed → C → Type 0) (g : Ghosts B)

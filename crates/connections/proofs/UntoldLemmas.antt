@@ -202,8 +202,9 @@ module _ {S B X : Type 0} (contents : S → Option (List ℕ)) (g : Ghosts B)
       → AreDone contents g signs count parts old x new y
       → AreDone untold g signs count (map bare_part parts) old x new y
   bare_done [] old x new y done = done
-  bare_done (part ∷ parts) old x new y done = (
-    done.0,
-    done.1,
-    (bare_part_done part old x done.0 done.1 done.2.0, bare_done parts done.0 done.1 new y done.2.1),
-  )
+  bare_done (part ∷ parts) old x new y done = record {
+    desk = done.desk;
+    signer = done.signer;
+    first = bare_part_done part old x done.desk done.signer done.first;
+    rest = bare_done parts done.desk done.signer new y done.rest;
+  }

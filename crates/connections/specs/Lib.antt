@@ -1,3 +1,4 @@
+pub mod Acceptor
 pub mod Clock
 pub mod Closing
 pub mod Gathering

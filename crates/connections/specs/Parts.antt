@@ -110,8 +110,14 @@ module _ {S B X : Type 0} (contents : S → Option (List ℕ)) (g : Ghosts B)
   IsDone (alone a) old x new y = IsAlone a old x new y
   IsDone (together members) old x new y = AreTogether members old x new y
 
-  -- Each part finds what the one before it left of desk and signer.
+  -- A part is done, and Rest holds of what it leaves of desk and signer.
+  pub record IsDoneBefore (part : Part S) (old : DeskValue B) (x : X) (Rest : DeskValue B → X → Type 0) : Type 0 where
+    pub desk : DeskValue B
+    pub signer : X
+    pub first : IsDone part old x desk signer
+    pub rest : Rest desk signer
+
+  -- Each part finds what the one before it left.
   abbrev pub AreDone : List (Part S) → DeskValue B → X → DeskValue B → X → Type 0
   AreDone [] old x new y = (new ≡ old) × (y ≡ x)
-  AreDone (part ∷ parts) old x new y =
-      (mid : DeskValue B) × (z : X) × (IsDone part old x mid z × AreDone parts mid z new y)
+  AreDone (part ∷ parts) old x new y = IsDoneBefore part old x (λ mid z. AreDone parts mid z new y)

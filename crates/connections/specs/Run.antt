@@ -13,7 +13,7 @@ use Rattle.desk.specs.Effects.{Effect}
 use Rattle.desk.specs.Laws.{AreMet}
 use Rattle.desk.specs.MachineRuns.{Told, after}
 use Rattle.desk.specs.MachineStep.{HasEffect}
-use Rattle.desk.specs.Outcome.{Call, Outcome}
+use Rattle.desk.specs.Outcome.{Outcome}
 use Rattle.desk.specs.RunContract.{HasRun, IsDoubtedIn}
 use Rattle.desk.specs.Together.{IsDoubtedTogether}
 use Rattle.service.specs.Answers.{AnswerValue}
@@ -25,13 +25,11 @@ use Rattle.connections.specs.Parts.{Part, alone, together, IsDone, AreDone}
 use Rattle.connections.specs.Turns.{State, untold, IsServedBy, StopsByClock}
 use Rattle.connections.specs.declared.clock.ClockFailed.{ClockFailed}
 
--- Stamps that were answered together, under these outcomes, and what became of the commits of all of them.
+-- Stamps that were answered together, under these outcomes.
 pub record Batch : Type 0 where
   pub asked : List Question
   pub answers : List Answer
   pub outcomes : List Outcome
-  pub reserving : Call
-  pub sealing : Call
 
 -- a stretch of a run
 pub data Stretch : Type 0 where
@@ -75,7 +73,7 @@ abbrev pub IsDoubtedBy : {B : Type 0} → (g : Ghosts B) → Setting → Stretch
     → Type 0
 IsDoubtedBy g s (in_turn told) os b last left = IsDoubtedIn g s (commands_in (in_turn told)) os b last left
 IsDoubtedBy g s (at_once batch) os b last left =
-    IsDoubtedTogether g s batch.asked batch.outcomes batch.reserving batch.sealing b last left
+    IsDoubtedTogether g s batch.asked batch.outcomes batch.answers b last left
 
 -- The same in one of them, each under its outcomes.
 abbrev pub IsDoubtedAlong : {B : Type 0} → (g : Ghosts B) → Setting → List Stretch → List (List Outcome) → History
@@ -141,8 +139,6 @@ module _ {B X : Type 0} (g : Ghosts B) (signs : X → List ℕ → Result (List 
       asked = map (λ m. m.question) members;
       answers = map (λ m. m.reply) members;
       outcomes = done.answered.outcomes;
-      reserving = done.answered.reserving;
-      sealing = done.answered.sealing;
     }
 
     -- and for all, the oldest first
@@ -150,7 +146,8 @@ module _ {B X : Type 0} (g : Ghosts B) (signs : X → List ℕ → Result (List 
         (y : X) → AreDone untold g signs count parts old x new y → List Stretch
     stretches_along [] old x new y done = []
     stretches_along (part ∷ parts) old x new y done =
-        stretch_of part old x done.0 done.1 done.2.0 ∷ stretches_along parts done.0 done.1 new y done.2.1
+        stretch_of part old x done.desk done.signer done.first
+        ∷ stretches_along parts done.desk done.signer new y done.rest
 
 module _ {C B X : Type 0} (reads : C → Result ℤ ClockFailed → C → Type 0) (g : Ghosts B)
     (signs : X → List ℕ → Result (List ℕ) SignerFault → X → Type 0) (count : X → ℕ) where

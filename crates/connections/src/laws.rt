@@ -1,15 +1,10 @@
-//! What holds of requests and of desks, whatever they are.
-ghost use Rattle.std.specs.Prelude.{◌≡◌, ℤ, List, ℕ, Option, Ok};
+//! What holds of requests, whatever they are.
+ghost use Rattle.std.specs.Prelude.{ℤ, List, ℕ, Option, Ok};
 ghost use Rattle.policy.specs.Record.{PolicyValue};
 ghost use Rattle.book.specs.History.{History};
 ghost use Rattle.desk.specs.Command.{Command};
-ghost use Rattle.desk.specs.MachineRuns.{IsProper};
 ghost use Rattle.desk.specs.MachineStep.{IsMet};
 ghost use Rattle.service.specs.Requests.{IsRequest, Step};
-
-use book::Book;
-use cms::Signer;
-use desk::Desk;
 
 /// A command that a request asks for has what its caller has to see to, whatever the history: a calibration's
 /// uncertainty is at most 10^12 microseconds, and a hold ends after its first moment.
@@ -17,12 +12,3 @@ pub fn requests_ask_for_what_is_met()
     ensures { (file : PolicyValue) (reading : ℤ) (before left : Option (List ℕ)) (c : Command)
         → IsRequest file reading before left (Ok (Step c)) → (b : History) → IsMet c b }
 {}
-
-/// A desk's setting is proper: it tells so where it runs no command, which does nothing.
-pub(crate) fn desks_are_proper<B: Book + Drop, G: Signer>(desk: &mut Desk<'_, B>, signer: &mut G)
-    ensures proper { IsProper desk.old.setting }
-    ensures desk { desk.new ≡ desk.old }
-    ensures signer { signer.new ≡ signer.old }
-{
-    let _ = desk.run(&[], signer);
-}

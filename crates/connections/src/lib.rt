@@ -1,6 +1,7 @@
 //! The counter over sockets: connections, read side by side, and served one after the other or together.
 #![tactic(auto)]
 
+mod acceptor;
 mod clock;
 mod closing;
 mod gathering;
@@ -15,6 +16,7 @@ mod places;
 mod server;
 mod waiting;
 
+pub use acceptor::{Accepted, Acceptor};
 pub use clock::{Clock, ClockFailed, SystemClock};
 pub use hearing::Hearing;
 pub use laws::requests_ask_for_what_is_met;

@@ -1,7 +1,7 @@
 //! Connections whose requests are still to come, each with the octets that came of it.
-ghost use Rattle.std.specs.Prelude.{◌≡◌, [], ◌∷◌, ◌++◌, length, true, false, None};
+ghost use Rattle.std.specs.Prelude.{◌≡◌, ◌<◌, [], ◌∷◌, ◌++◌, length, true, false};
 ghost use Rattle.std.specs.Prelude.{OnErr, IfOk, IfSome, MatchOption, OnOk};
-ghost use Rattle.connections.specs.Places.{AreReadOn, FailsOne, HandsOut, IsTakenOut, IsWholeAt};
+ghost use Rattle.connections.specs.Places.{AreReadOn, DropsOne, GivesOne, GivesWay, IsTakenOut, IsWholeAt};
 ghost use Rattle.connections.specs.Waiting.{place_of, places_of};
 
 use crate::waiting::{Progress, Waiting, is_whole};
@@ -26,6 +26,15 @@ impl<S: Drop> Places<S> {
         Ok(Places {
             waiting: Vec::with_capacity(alloc, room)?,
         })
+    }
+
+    /// One more gets a place, behind the others, for which the first loses its own.
+    pub(crate) fn replace_first(&mut self, one: Waiting<S>)
+        requires { 0 < length (places_of self.old) }
+        ensures { GivesWay (place_of one) (places_of self.old) (places_of self.new) }
+    {
+        self.waiting[0] = one;
+        self.waiting.rotate_left(1);
     }
 
     /// One more gets a place, behind the others. An error where memory is wanting; it is dropped then.
@@ -57,16 +66,12 @@ impl<S> Places<S> {
         }
     }
 
-    /// Takes one out of its place; none where that place isn't there.
-    pub(crate) fn remove(&mut self, place: usize) -> Option<Waiting<S>>
-        ensures { MatchOption result (places_of self.new ≡ places_of self.old)
-            (λ one. IsTakenOut place (place_of one) (places_of self.old) (places_of self.new)) }
+    /// Takes one out of its place.
+    pub(crate) fn remove(&mut self, place: usize) -> Waiting<S>
+        requires { place < length (places_of self.old) }
+        ensures { IsTakenOut place (place_of result) (places_of self.old) (places_of self.new) }
     {
-        if place < self.waiting.len() {
-            Some(self.waiting.remove(place))
-        } else {
-            None
-        }
+        self.waiting.remove(place)
     }
 
     /// Those of a token may have something to be read.
@@ -134,10 +139,10 @@ impl<S: Duplex + AsRawFd + Drop> Places<S> {
     /// Another whose request is whole already is taken out of its place. None where there is none.
     pub(crate) fn take_whole(&mut self, routes: &Routes, registry: &Registry) -> Option<Waiting<S>>
         ensures { MatchOption result (AreReadOn S.remaining (places_of self.old) (places_of self.new))
-            (λ one. HandsOut S.remaining None (places_of self.old) one.request one.peer.stream (places_of self.new)) }
+            (λ one. GivesOne S.remaining (places_of self.old) one.request one.peer.stream (places_of self.new)) }
     {
         let place = self.first_whole(routes, registry)?;
-        self.remove(place)
+        Some(self.remove(place))
     }
 
     /// The first that is done with is taken out of its place: it is given where its request is whole, and else none.
@@ -148,11 +153,15 @@ impl<S: Duplex + AsRawFd + Drop> Places<S> {
         now: Instant,
     ) -> Option<Option<Waiting<S>>>
         ensures { MatchOption result (AreReadOn S.remaining (places_of self.old) (places_of self.new))
-            (λ done. MatchOption done (FailsOne S.remaining None (places_of self.old) (places_of self.new))
-            (λ one. HandsOut S.remaining None (places_of self.old) one.request one.peer.stream (places_of self.new))) }
+            (λ done. MatchOption done (DropsOne S.remaining (places_of self.old) (places_of self.new))
+            (λ one. GivesOne S.remaining (places_of self.old) one.request one.peer.stream (places_of self.new))) }
     {
         let (place, is_whole) = self.first_done(routes, registry, now)?;
         let one = self.remove(place);
-        if is_whole { Some(one) } else { Some(None) }
+        if is_whole {
+            Some(Some(one))
+        } else {
+            Some(None)
+        }
     }
 }

@@ -2,19 +2,23 @@
 ghost use Rattle.std.specs.Prelude.{◌≡◌, ◌<◌, ◌≤◌, IfOk, OnErr, OnOk};
 ghost use Rattle.connections.specs.Heard.{AreHeard, IsDropped, IsHeard, StopsHearing, hall};
 ghost use Rattle.connections.specs.Run.{ServesEach};
+ghost use Rattle.connections.specs.Waiting.{places_of};
 
+use crate::acceptor::Acceptor;
 use crate::clock::{Clock, ClockFailed};
 use crate::gathering::gather;
 use crate::group::answer_gathered;
 use crate::hearing::Hearing;
-use crate::laws::{desks_are_proper, requests_ask_for_what_is_met};
+use crate::laws::requests_ask_for_what_is_met;
+use crate::limited::Limited;
 use crate::listening::Listening;
 use book::Book;
 use cms::Signer;
 use desk::{
     Desk, accounts_are_isolated, accounts_disturb_little, commands_have_one_effect,
-    journeys_keep_their_promises,
+    desks_are_proper, journeys_keep_their_promises,
 };
+use std::io::Write;
 
 /// The limit on a connection's time: so many seconds for its request, and so many for its answer.
 pub const CONNECTION_SECONDS: u64 = 20;
@@ -105,7 +109,7 @@ pub fn serve_each<L: Hearing, C: Clock, B: Book + Drop, G: Signer>(
     journeys_keep_their_promises();
     accounts_are_isolated::<G>();
     accounts_disturb_little();
-    desks_are_proper(desk, signer);
+    desks_are_proper(desk);
     answer_all(hearing, count, clock, desk, signer)
 }
 
@@ -123,22 +127,44 @@ pub fn serve_each<L: Hearing, C: Clock, B: Book + Drop, G: Signer>(
 ///
 /// `ClockFailed` where the clock fails: the connection is closed then without an answer, with those that were to be
 /// answered with it, and no further one served.
-pub fn serve_connections<R: AllocGlobal + std::time::Clock, C: Clock, B: Book + Drop, G: Signer>(
-    listening: &mut Listening<'_, R>,
+pub fn serve_connections<
+    'l,
+    A: Acceptor + Drop,
+    R: AllocGlobal + std::time::Clock,
+    C: Clock,
+    B: Book + Drop,
+    G: Signer,
+>(
+    listening: &mut Listening<'l, A, R>,
     count: u32,
     clock: &mut C,
     desk: &mut Desk<'_, B>,
     signer: &mut G,
 ) -> Result<(), ClockFailed>
+    // then it is waited until the last of them are closed, which takes no other
+    ensures heard { OnOk result ((last : _)
+        × (listening.new.acceptor ≡ last.acceptor) × (places_of listening.new.places ≡ places_of last.places)
+        × AreHeard ⟦<Listening<'l, A, R> as Hearing>⟧.hands ⟦<Listening<'l, A, R> as Hearing>⟧.fails
+        ⟦<Listening<'l, A, R> as Hearing>⟧.stays ⟦<Listening<'l, A, R> as Hearing>⟧.takes_back
+        ⟦<Limited<'l, R, A::Stream> as Write>⟧.contents C.reads B.Standing G.signs G.fault_count count count
+        (hall listening.old clock.old desk.old signer.old) (hall last clock.new desk.new signer.new)) }
+    ensures stopped { OnErr result (StopsHearing ⟦<Listening<'l, A, R> as Hearing>⟧.hands
+        ⟦<Listening<'l, A, R> as Hearing>⟧.fails ⟦<Listening<'l, A, R> as Hearing>⟧.stays
+        ⟦<Listening<'l, A, R> as Hearing>⟧.takes_back ⟦<Limited<'l, R, A::Stream> as Write>⟧.contents C.reads
+        B.Standing G.signs G.fault_count count
+        (hall listening.old clock.old desk.old signer.old)
+        (hall listening.new clock.new desk.new signer.new)) }
     ensures setting { desk.new.setting ≡ desk.old.setting }
     ensures honest { B.honest desk.new.store → B.honest desk.old.store }
     ensures served { ServesEach C.reads B.Standing G.signs G.fault_count count
         (record { clock = clock.old; desk = desk.old; signer = signer.old })
         (record { clock = clock.new; desk = desk.new; signer = signer.new }) result }
 {
-    let done = serve_each(listening, count, clock, desk, signer);
-    if done.is_ok() {
-        listening.finish();
+    match serve_each(listening, count, clock, desk, signer) {
+        Ok(()) => {
+            listening.finish();
+            Ok(())
+        }
+        Err(fault) => Err(fault),
     }
-    done
 }

@@ -1,7 +1,6 @@
 //! A connection whose request is still to come.
 ghost use Rattle.std.specs.Prelude.{◌≡◌, true, false};
-ghost use Rattle.service.specs.Received.{is_open};
-ghost use Rattle.connections.specs.Places.{IsReadOn, IsUnfinished};
+ghost use Rattle.connections.specs.Places.{IsReadOn, IsUnfinished, IsWhole};
 ghost use Rattle.connections.specs.Waiting.{HasCome, place_of};
 
 use crate::peer::Peer;
@@ -30,7 +29,7 @@ pub(crate) enum Progress {
 
 /// Whether all is there that will be read of a request. It isn't where the input ended before any octet came.
 pub(crate) fn is_whole(request: &Request) -> bool
-    ensures whole { result ≡ true → is_open request.now ≡ false }
+    ensures whole { result ≡ true → IsWhole request.now }
     ensures unfinished { result ≡ false → IsUnfinished request.now }
 {
     !request.is_open() && !request.is_closed()

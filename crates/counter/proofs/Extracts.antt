@@ -12,7 +12,7 @@ use Rattle.policy.specs.Record.{AccountValue, PolicyValue}
 use Rattle.book.specs.Rows.{StampRow}
 use Rattle.console.specs.Files.{ReadsText, Source}
 use Rattle.console.specs.Writes.{Begins}
-use Rattle.counter.specs.Extract.{CutsExtract, LeavesAudit, StopsCheck, nothing, in_extract, in_check}
+use Rattle.counter.specs.Extract.{IsExamining, CutsExtract, LeavesAudit, StopsCheck, nothing, in_extract, in_check}
 use Rattle.counter.specs.Fault.{fault_of_audit}
 
 -- what the operation says of a refused audit, where the inquiry is what the words and the files state
@@ -24,7 +24,7 @@ LeavesBy words policy account out out' err err' fault =
     × IsAllowed policy account words.from words.to
     × operation.BeginsExtract out out'
     × (err' ≡ err))
-    ⊎ ((words.check ≡ true)
+    ⊎ (IsExamining words
     × operation.IsCheckFault fault
     × IsAllowed policy account words.from words.to
     × operation.WritesExtract out out'

@@ -6,7 +6,7 @@ use Rattle.command_line.specs.Words.{Asks}
 use Rattle.command_line.specs.declared.words.AuditWords.{AuditWords}
 use Rattle.command_line.specs.declared.words.Word.{Word}
 use Rattle.command_line.specs.declared.words.Word.TheVariants.{Tst, Check, Init, Migrate, Continue, Calibrate, Hold}
-use Rattle.command_line.specs.declared.words.Word.TheVariants.{Answer, Exchange, Serve, Audit}
+use Rattle.command_line.specs.declared.words.Word.TheVariants.{Answer, Exchange, Serve, Audit, Explain}
 use Rattle.connections.specs.Clock.{Reading}
 use Rattle.console.specs.Fault.{fault_line}
 use Rattle.console.specs.Files.{Source}
@@ -19,13 +19,13 @@ use Rattle.operations.specs.Audits.{TellsSome, failing_lines}
 use Rattle.operations.specs.Machine.{Machine}
 use Rattle.operations.specs.declared.void_stamp.Floor.{Floor}
 use Rattle.counter.specs.Does.{Does, IsNoAudit}
-use Rattle.counter.specs.Extract.{Extracts, LeavesAudit}
+use Rattle.counter.specs.Extract.{IsExamining, Extracts, LeavesAudit}
 use Rattle.counter.specs.Extract as left
 use Rattle.counter.specs.Stops.{Stops, tells_fault, in_answer, in_extract, in_check, failing}
-use Rattle.counter.specs.Streams.{Extent, Streams, begun, streams_of}
+use Rattle.counter.specs.Streams.{Extent, begun, streams_of}
 use Rattle.counter.specs.declared.run.Outcome.{Outcome}
 use Rattle.counter.specs.declared.run.Outcome.TheVariants.{Replied, Counted, Changed, Exchanged, Served, Extracted}
-use Rattle.counter.specs.declared.run.Outcome.TheVariants.{Failing}
+use Rattle.counter.specs.declared.run.Outcome.TheVariants.{Failing, Explained}
 
 -- a word is `audit` or another
 pub audit_or_not : (word : Word) → ((words : AuditWords) × (word ≡ Audit words)) ⊎ IsNoAudit word
@@ -40,6 +40,7 @@ audit_or_not (Hold words) = inr (λ other e. cc e)
 audit_or_not (Answer words) = inr (λ other e. cc e)
 audit_or_not (Exchange words) = inr (λ other e. cc e)
 audit_or_not (Serve words) = inr (λ other e. cc e)
+audit_or_not (Explain words) = inr (λ other e. cc e)
 
 pub failing_or_not : (outcome : Outcome) → (outcome ≡ Failing) ⊎ (outcome ≢ Failing)
 failing_or_not Failing = inl refl
@@ -49,6 +50,7 @@ failing_or_not Changed = inr (λ e. cc e)
 failing_or_not Exchanged = inr (λ e. cc e)
 failing_or_not Served = inr (λ e. cc e)
 failing_or_not Extracted = inr (λ e. cc e)
+failing_or_not Explained = inr (λ e. cc e)
 
 module _ {D X C S F O : Type 0} (m : Machine D X C Reading) (IsContinued : Option Floor → Type 0) (files : Source S F)
     (texts : List Text) (input input' : Option (List ℕ)) (contents : O → Option (List ℕ)) (out out' : O)
@@ -68,6 +70,7 @@ module _ {D X C S F O : Type 0} (m : Machine D X C Reading) (IsContinued : Optio
   still_does mid new extent (Answer words) none it = it
   still_does mid new extent (Exchange words) none it = it
   still_does mid new extent (Serve words) none it = it
+  still_does mid new extent (Explain words) none it = it
 
   module _ (word : Word) (asks : Asks texts word) where
     asks_audit : (words : AuditWords) → word ≡ Audit words → Asks texts (Audit words)
@@ -75,7 +78,7 @@ module _ {D X C S F O : Type 0} (m : Machine D X C Reading) (IsContinued : Optio
 
     -- stamps fail, and no fault stopped the check
     pub failing_stops : (new : Option (List ℕ))
-        → ((words : AuditWords) × (word ≡ Audit words) × (words.check ≡ true)
+        → ((words : AuditWords) × (word ≡ Audit words) × IsExamining words
         × Extracts m files words (contents out) (contents out') old new false (Appends (contents out) (contents out'))
         × TellsSome old new)
         → Stops m IsContinued files texts (streams_of input input' contents out out' old new)

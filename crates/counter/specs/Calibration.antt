@@ -5,8 +5,9 @@ use Rattle.book.specs.Values.{calibration_view}
 use Rattle.book.specs.declared.values.Calibration.{Calibration}
 use Rattle.command_line.specs.declared.words.CalibrateWords.{CalibrateWords}
 use Rattle.connections.specs.Clock.{Reading}
+use Rattle.operations.specs.Addition.{IsAdded}
 use Rattle.operations.specs.Machine.{Machine}
-use Rattle.operations.specs.OverFiles.{IsAddedOver}
+use Rattle.operations.specs.OverFiles.{IsDoneOver}
 use Rattle.operations.specs.declared.addition.Addition.TheVariants as addition
 
 -- a number of microseconds, or minus that number
@@ -27,4 +28,5 @@ pub record Calibrates {D X C : Type 0} (m : Machine D X C Reading) (words : Cali
   pub stated : calibration_view calibration ≡ calibration_of words
   -- it is added to the store of the database, in one commit, and has this number there
   pub number : ℕ
-  pub added : IsAddedOver m.disk m.held (addition.Calibration calibration) (Ok number)
+  pub added : IsDoneOver m.disk m.held (λ g opened left.
+      IsAdded g (addition.Calibration calibration) opened left (Ok number))

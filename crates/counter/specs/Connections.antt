@@ -9,9 +9,9 @@ use Rattle.connections.specs.declared.clock.ClockFailed.{ClockFailed}
 use Rattle.command_line.specs.declared.words.ServeWords.{ServeWords}
 use Rattle.console.specs.Files.{Source}
 use Rattle.operations.specs.Machine.{Machine}
-use Rattle.operations.specs.OverFiles.{IsVisitedAsAny}
+use Rattle.operations.specs.OverFiles.{IsAny, IsDoneOver, IsReached}
 use Rattle.operations.specs.Signing.{algorithm_of}
-use Rattle.operations.specs.Visits.{Visit}
+use Rattle.operations.specs.Visits.{IsVisited, Visit}
 use Rattle.operations.specs.declared.fault.OperationFault.{OperationFault}
 use Rattle.operations.specs.declared.fault.OperationFault.TheVariants as operation
 use Rattle.counter.specs.Files.{ReadsDesk, setting_of}
@@ -43,8 +43,9 @@ pub record ServesConnections {D X C S F : Type 0} (m : Machine D X C Reading) (f
   pub read : ReadsDesk files words.desk
   -- a desk is opened over the store of the database, which installs the identity unless it is the latest there; with a
   -- signer of that algorithm the connections are a run of the machine, at the readings of a clock
-  pub served : IsVisitedAsAny m.disk m.held m.signer (setting_of read) (algorithm_of read.signing)
-      (λ _ g desk desk' signer signer'. (clock clock' : C)
+  pub served : IsDoneOver m.disk m.held (λ g opened left.
+      IsVisited g (setting_of read) (IsReached m.signer (algorithm_of read.signing)) IsAny opened left
+      (λ desk desk' signer signer'. (clock clock' : C)
       × ServesAt m.reads g m.signer.signs m.signer.fault_count words.connections
       (record { clock = clock; desk = desk; signer = signer })
-      (record { clock = clock'; desk = desk'; signer = signer' }) done)
+      (record { clock = clock'; desk = desk'; signer = signer' }) done))

@@ -1,5 +1,5 @@
 -- What the words do, and what they write.
-use Rattle.std.specs.Prelude.{◌≡◌, ℕ, List, [], Option, true, IfSome, Ok}
+use Rattle.std.specs.Prelude.{◌≡◌, ℕ, List, [], Option, Some, true, IfSome, Ok}
 use Rattle.connections.specs.Clock.{Reading}
 use Rattle.console.specs.Counts.{Counts}
 use Rattle.console.specs.Files.{Source}
@@ -8,17 +8,18 @@ use Rattle.counter.specs.Calibration.{Calibrates}
 use Rattle.counter.specs.Connections.{ServesConnections}
 use Rattle.counter.specs.Continuation.{floor_of}
 use Rattle.counter.specs.Exchange.{Exchanges}
+use Rattle.counter.specs.Explanation.{Explains}
 use Rattle.counter.specs.Extract.{Extracts}
 use Rattle.counter.specs.Hold.{Holds}
 use Rattle.counter.specs.Reply.{Replies}
 use Rattle.counter.specs.Streams.{Extent, Streams, Writes}
 use Rattle.operations.specs.Machine.{Machine}
-use Rattle.operations.specs.OverFiles.{IsMadeOver, IsMigratedOver}
+use Rattle.operations.specs.OverFiles.{IsMadeOver, MigratesFound}
 use Rattle.operations.specs.declared.void_stamp.Floor.{Floor}
 use Rattle.command_line.specs.declared.words.AuditWords.{AuditWords}
 use Rattle.command_line.specs.declared.words.Word.{Word}
 use Rattle.command_line.specs.declared.words.Word.TheVariants.{Tst, Check, Init, Migrate, Continue, Calibrate, Hold}
-use Rattle.command_line.specs.declared.words.Word.TheVariants.{Answer, Exchange, Serve, Audit}
+use Rattle.command_line.specs.declared.words.Word.TheVariants.{Answer, Exchange, Serve, Audit, Explain}
 
 -- Each word has a definition of what it does, and of what is written to the output, to that extent. But for `tst`,
 -- `answer` and `exchange` the input isn't read, and where no text is said nothing is written. The files that the words
@@ -32,7 +33,7 @@ Does m IsContinued files s (Check words) extent =
     (s.input_after ≡ s.input) × ((written : List ℕ) × Counts files words written × Writes s extent written)
 Does m IsContinued files s (Init words) extent = (s.input_after ≡ s.input) × IsMadeOver m.disk [] × Writes s extent []
 Does m IsContinued files s (Migrate words) extent =
-    (s.input_after ≡ s.input) × IsMigratedOver m.disk m.held × Writes s extent []
+    (s.input_after ≡ s.input) × MigratesFound m.disk m.held × Writes s extent []
 Does m IsContinued files s (Continue words) extent =
     (s.input_after ≡ s.input) × IsContinued (floor_of words) × Writes s extent []
 Does m IsContinued files s (Calibrate words) extent =
@@ -48,6 +49,9 @@ Does m IsContinued files s (Audit words) extent =
     (s.input_after ≡ s.input)
     × Extracts m files words (s.contents s.output) (s.contents s.output_after) s.errors s.errors_after true
     (Writes s extent)
+Does m IsContinued files s (Explain words) extent =
+    (s.input_after ≡ s.input)
+    × ((written : List ℕ) × Explains m files words (Some written) × Writes s extent written)
 
 abbrev pub IsNoAudit : Word → Type 0
 IsNoAudit word = (words : AuditWords) → word ≡ Audit words → ⊥

@@ -13,7 +13,8 @@ use Rattle.console.specs.declared.fault.Fault.{Fault}
 use Rattle.console.specs.declared.fault.Fault.TheVariants.{Input}
 use Rattle.console.specs.declared.fault.InputFault.TheVariants.{Failed}
 use Rattle.operations.specs.Machine.{Machine}
-use Rattle.operations.specs.OverFiles.{IsVisitedAsAny}
+use Rattle.operations.specs.OverFiles.{IsAny, IsDoneOver, IsReached}
+use Rattle.operations.specs.Visits.{IsVisited}
 use Rattle.service.specs.Served.{Serves}
 use Rattle.counter.specs.Files.{ReadsDesk, setting_of}
 use Rattle.counter.specs.Streams.{Extent, WritesSo, whole, begun}
@@ -58,8 +59,9 @@ pub record Exchanges {D X C S F O : Type 0} (m : Machine D X C Reading) (files :
   -- signer of that algorithm the request is served, which leaves the output so
   pub output_served : O
   pub outcome : Served
-  pub served : IsVisitedAsAny m.disk m.held m.signer (setting_of read) (algorithm_of read.signing)
-      (λ _ g desk desk' signer signer'.
+  pub served : IsDoneOver m.disk m.held (λ g opened left.
+      IsVisited g (setting_of read) (IsReached m.signer (algorithm_of read.signing)) IsAny opened left
+      (λ desk desk' signer signer'.
       Serves g m.signer.signs m.signer.fault_count contents (pos words.reading) (record {
         input = input;
         input_after = input';
@@ -69,6 +71,6 @@ pub record Exchanges {D X C S F O : Type 0} (m : Machine D X C Reading) (files :
         desk_after = desk';
         signer = signer;
         signer_after = signer';
-      }) outcome)
+      }) outcome))
   -- and then it is flushed, or its stream failed
   pub ends : Ends extent outcome (contents output_served) (contents output')

@@ -21,6 +21,10 @@ use Rattle.policy.specs.Meaning.{meaning_of}
 use Rattle.policy.specs.Record.{AccountValue, PolicyValue}
 use Rattle.policy.specs.View.{account_view, policy_view}
 
+-- stamps are to be checked or judged
+abbrev pub IsExamining : AuditWords → Type 0
+IsExamining words = (words.check ≡ true) ⊎ (words.judge ≡ true)
+
 -- want of memory, or the database's refusal, stops a check
 abbrev pub StopsCheck : Fault → Type 0
 StopsCheck stop = (stop ≡ program.Audit extract.Memory) ⊎ (stop ≡ program.Store store.Database)
@@ -32,13 +36,14 @@ pub record Extracts {D X C S F : Type 0} (m : Machine D X C Reading) (files : So
   pub rules : List ℕ
   pub rules_read : ReadsText files words.rules.now (Ok rules)
   -- by the policy that it means, the account of the name that the words state asks for the stamps from their first to
-  -- their last serial number, and for a check of each where they do
+  -- their last serial number, and for a check and a judgement of each where they do
   pub inquiry : Inquiry
   pub meant : meaning_of rules ≡ Ok (policy_view inquiry.policy.now)
   pub named : account_named (policy_view inquiry.policy.now) words.account.now ≡ Some (account_view inquiry.account.now)
   pub first : inquiry.from ≡ words.from
   pub last : inquiry.to ≡ words.to
   pub check : inquiry.check ≡ words.check
+  pub judge : inquiry.judge ≡ words.judge
   -- the account is an auditor's, and asks for a range
   pub allowed : IsAllowed (policy_view inquiry.policy.now) (account_view inquiry.account.now) words.from words.to
   -- the store of the database is only looked at; the stamps of that range are extracted, and checked where that is
@@ -71,5 +76,5 @@ pub data LeavesAudit {S F : Type 0} (files : Source S F) (words : AuditWords) (o
   nothing : out' ≡ out → err' ≡ err → LeavesAudit files words out out' err err' fault
   in_extract : CutsExtract files words (Begins out out') → (refusal : ExtractFault) → IsMet refusal
       → fault ≡ program.Audit refusal → err' ≡ err → LeavesAudit files words out out' err err' fault
-  in_check : CutsExtract files words (Appends out out') → words.check ≡ true → StopsCheck fault
+  in_check : CutsExtract files words (Appends out out') → IsExamining words → StopsCheck fault
       → (failures : List Failure) → Appends err err' (failing_lines failures) → LeavesAudit files words out out' err err' fault

@@ -11,8 +11,8 @@ use Rattle.console.specs.Files.{IsAlgorithmOf, IsKeyOf, ReadsAs, ReadsIdentity, 
 use Rattle.console.specs.Files.{most_of_algorithm, most_of_key}
 use Rattle.console.specs.declared.fault.Fault.{Fault}
 use Rattle.console.specs.declared.fault.Fault.TheVariants.{Cms}
-use Rattle.operations.specs.declared.signing.Signing.{Signing}
-use Rattle.operations.specs.declared.signing.Signing.TheVariants as signing
+use Rattle.operations.specs.declared.host.Signing.{Signing}
+use Rattle.operations.specs.declared.host.Signing.TheVariants as signing
 use Rattle.desk.specs.Calls.{in_force_of}
 use Rattle.desk.specs.Command.{Setting}
 use Rattle.operations.specs.Signing.{algorithm_of}

@@ -5,8 +5,9 @@ use Rattle.book.specs.Values.{hold_view}
 use Rattle.book.specs.declared.values.Hold.{Hold as HoldRow}
 use Rattle.command_line.specs.declared.words.HoldWords.{HoldWords}
 use Rattle.connections.specs.Clock.{Reading}
+use Rattle.operations.specs.Addition.{IsAdded}
 use Rattle.operations.specs.Machine.{Machine}
-use Rattle.operations.specs.OverFiles.{IsAddedOver}
+use Rattle.operations.specs.OverFiles.{IsDoneOver}
 use Rattle.operations.specs.declared.addition.Addition.TheVariants.{Hold}
 
 abbrev pub hold_of : HoldWords → HoldValue
@@ -19,4 +20,4 @@ pub record Holds {D X C : Type 0} (m : Machine D X C Reading) (words : HoldWords
   pub stated : hold_view hold ≡ hold_of words
   -- it is added to the store of the database, in one commit, and has this number there
   pub number : ℕ
-  pub added : IsAddedOver m.disk m.held (Hold hold) (Ok number)
+  pub added : IsDoneOver m.disk m.held (λ g opened left. IsAdded g (Hold hold) opened left (Ok number))

@@ -7,11 +7,11 @@ use Rattle.audit.specs.declared.fault.ExtractFault.{ExtractFault}
 use Rattle.book.specs.History.{CalibrationValue}
 use Rattle.desk.specs.Command.{Command, Stamp, ListAll, Calibrate, Answer}
 use Rattle.service.specs.Accounts.{account_text}
-use Rattle.service.specs.Answers.{AnswerValue, answer_text, answer_to, refusal_answer, success}
+use Rattle.service.specs.Answers.{AnswerValue, answer_text, answer_to, refusal_answer, success, unavailable}
 use Rattle.service.specs.Refusals.{refusal_of_extract}
 use Rattle.service.specs.Requests.{Report, Step, Look, Extract, Status, OfAccount, OfReaders, IsRequest, IsPart}
-use Rattle.service.specs.Requests.{IsEarly}
-use Rattle.service.specs.Served.{Turn, unavailable}
+use Rattle.service.specs.Requests.{IsEarly, IsText}
+use Rattle.service.specs.Served.{Turn}
 use Rattle.service.specs.declared.answer.Media.TheVariants as media
 use Rattle.service.specs.declared.answer.Media.TheVariants.{Csv}
 use Rattle.service.specs.declared.refusal.Refusal.{Refusal}
@@ -27,17 +27,19 @@ IsJudged file (Stamp account reading octets) answer =
     IsJudgedReply file account octets answer
 IsJudged file other answer = Unit {0}
 
--- the report is one text; an extract is written row by row
-abbrev pub IsText : Report → Type 0
-IsText (Extract account from to) = ⊥
-IsText other = Unit {0}
-
--- what of that text is certain
+-- what of a report's text is certain
 abbrev pub IsTextOf : PolicyValue → Report → List ℕ → Type 0
 IsTextOf file (Extract account from to) body = ⊥
 IsTextOf file Status body = Unit {0}
 IsTextOf file (OfAccount account) body = (used : Option ℕ) × (body ≡ account_text file account used)
 IsTextOf file (OfReaders account number) body = Unit {0}
+
+-- what of its refusal: an extract is kept back, and a deposit isn't here for others than its owner
+abbrev pub IsRefusalOf : PolicyValue → Report → Refusal → Type 0
+IsRefusalOf file (Extract account from to) f =
+    (fault : ExtractFault) × ComesWhere file account from to fault × (f ≡ refusal_of_extract fault)
+IsRefusalOf file (OfReaders account number) f = f ≡ refusal.NotHere
+IsRefusalOf file other f = ⊥
 
 -- Why an answer is written: the input is left as `old`, and then as `new`.
 pub data IsAnswerFor (file : PolicyValue) (reading : ℤ) (old new : Option (List ℕ)) (a : AnswerValue) : Type 0 where
@@ -53,15 +55,9 @@ pub data IsAnswerFor (file : PolicyValue) (reading : ℤ) (old new : Option (Lis
   -- the report that the request asks for is told as a text
   tells_report : (r : Report) (body : List ℕ) → IsRequest file reading old new (Ok (Look r)) → IsTextOf file r body
       → a ≡ success 200 media.Text body → IsAnswerFor file reading old new a
-  -- the deposit whose readers the request asks for isn't here for the account
-  hides_readers : (account : AccountValue) (number : ℕ)
-      → IsRequest file reading old new (Ok (Look (OfReaders account number))) → a ≡ refusal_answer refusal.NotHere
-      → IsAnswerFor file reading old new a
-  -- the extract that the request asks for is refused
-  keeps_back : (account : AccountValue) (from to : ℕ)
-      → IsRequest file reading old new (Ok (Look (Extract account from to))) → (f : ExtractFault)
-      → ComesWhere file account from to f → a ≡ refusal_answer (refusal_of_extract f)
-      → IsAnswerFor file reading old new a
+  -- it is refused
+  refuses_report : (r : Report) (f : Refusal) → IsRequest file reading old new (Ok (Look r)) → IsRefusalOf file r f
+      → a ≡ refusal_answer f → IsAnswerFor file reading old new a
   -- memory is wanting before the body is read
   wants_early : IsEarly old new → a ≡ unavailable → IsAnswerFor file reading old new a
   -- memory is wanting for the lines of a list

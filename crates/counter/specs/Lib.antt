@@ -3,6 +3,7 @@ pub mod Connections
 pub mod Continuation
 pub mod Does
 pub mod Exchange
+pub mod Explanation
 pub mod Extract
 pub mod Fault
 pub mod Files

@@ -2,7 +2,8 @@
 use Rattle.std.specs.Prelude.{◌≡◌, ℕ, pos, List}
 use Rattle.der.specs.Node.{encoding}
 use Rattle.desk.specs.Command as desk
-use Rattle.desk.specs.Command.{Answer}
+use Rattle.desk.specs.CallContract.{IsStep, with_signer}
+use Rattle.desk.specs.Command.{Answer, Stamp}
 use Rattle.desk.specs.Findings.{HoldsUnasked}
 use Rattle.desk.specs.declared.reply.Reply.{Reply}
 use Rattle.desk.specs.declared.reply.Reply.TheVariants.{Granted, Rejected}
@@ -15,8 +16,9 @@ use Rattle.console.specs.Files.{Source}
 use Rattle.console.specs.Hexadecimal.{IsHexadecimal, line}
 use Rattle.connections.specs.Clock.{Reading}
 use Rattle.operations.specs.Machine.{Machine}
-use Rattle.operations.specs.OverFiles.{IsAnsweredOver}
+use Rattle.operations.specs.OverFiles.{IsAny, IsDoneOver, IsReached}
 use Rattle.operations.specs.Signing.{algorithm_of}
+use Rattle.operations.specs.Visits.{IsVisited}
 use Rattle.counter.specs.Files.{ReadsDesk, setting_of}
 
 -- the octets of a reply
@@ -42,8 +44,10 @@ pub record Replies {D X C S F : Type 0} (m : Machine D X C Reading) (files : Sou
   -- a desk is opened over the store of the database, which installs the identity unless it is the latest there; with a
   -- signer of that algorithm the machine answers by one step, for that account and at the reading that the words state
   pub answer : Answer
-  pub stepped : IsAnsweredOver m.disk m.held m.signer (setting_of read) (algorithm_of read.signing)
-      (account_shown read.policy words.key) (pos words.reading) query answer
+  pub stepped : IsDoneOver m.disk m.held (λ g opened left.
+      IsVisited g (setting_of read) (IsReached m.signer (algorithm_of read.signing)) IsAny opened left
+      (λ desk desk' signer signer'. IsStep g (with_signer m.signer.signs m.signer.fault_count signer signer')
+      (Stamp (account_shown read.policy words.key) (pos words.reading) query) desk desk' answer))
   -- the reply is its token or its rejection (TimeStampResp, RFC 3161 2.4.2)
   pub reply : List ℕ
   pub says : IsReplyOf answer reply

@@ -1,5 +1,5 @@
--- What is left where the program's exit status is 1.
-use Rattle.std.specs.Prelude.{◌≡◌, true, false, ℕ, List, Option, ◌++◌}
+-- How the program ends: what is done where its exit status is 0, and what is left where that is 1.
+use Rattle.std.specs.Prelude.{◌≡◌, ◌⊎◌, true, false, ℕ, List, Option, ◌++◌}
 use Rattle.std.specs.Io.KnownBytes.{Appends}
 use Rattle.clap.specs.Words.{Text}
 use Rattle.audit.specs.Auditor.{IsMet}
@@ -16,8 +16,8 @@ use Rattle.console.specs.declared.fault.Fault.{Fault}
 use Rattle.console.specs.declared.fault.Fault.TheVariants as program
 use Rattle.console.specs.declared.fault.InputFault.TheVariants.{Failed}
 use Rattle.counter.specs.Does.{Does}
-use Rattle.counter.specs.Extract.{CutsExtract, Extracts, StopsCheck}
-use Rattle.counter.specs.Streams.{Streams, begun}
+use Rattle.counter.specs.Extract.{IsExamining, CutsExtract, Extracts, StopsCheck}
+use Rattle.counter.specs.Streams.{Streams, begun, whole}
 use Rattle.operations.specs.Audits.{Failure, TellsSome, failing_lines}
 use Rattle.operations.specs.Machine.{Machine}
 use Rattle.operations.specs.declared.void_stamp.Floor.{Floor}
@@ -42,12 +42,18 @@ pub data Stops {D X C S F O : Type 0} (m : Machine D X C Reading) (IsContinued :
       → (refusal : ExtractFault) → IsMet refusal
       → Begins s.errors s.errors_after (fault_line (program.Audit refusal)) → Stops m IsContinued files texts s
   -- the extract is written, and lines of what fails, if anything; then its check is refused
-  in_check : (words : AuditWords) → Asks texts (Audit words) → words.check ≡ true
+  in_check : (words : AuditWords) → Asks texts (Audit words) → IsExamining words
       → CutsExtract files words (Appends (s.contents s.output) (s.contents s.output_after))
       → (failures : List Failure) → (fault : Fault) → StopsCheck fault
       → Begins s.errors s.errors_after (failing_lines failures ++ fault_line fault) → Stops m IsContinued files texts s
   -- the extract is written, and lines of what fails its check, of which there is one
-  failing : (words : AuditWords) → Asks texts (Audit words) → words.check ≡ true
+  failing : (words : AuditWords) → Asks texts (Audit words) → IsExamining words
       → Extracts m files words (s.contents s.output) (s.contents s.output_after) s.errors s.errors_after false
       (Appends (s.contents s.output) (s.contents s.output_after))
       → TellsSome s.errors s.errors_after → Stops m IsContinued files texts s
+
+-- By its exit status: all is done, what the words ask for is written, or they ask for help; or it was stopped.
+pub record Exits {D X C S F O : Type 0} (m : Machine D X C Reading) (IsContinued : Option Floor → Type 0)
+    (files : Source S F) (s : Streams O) (texts : List Text) (status : ℕ) : Type 0 where
+  pub done : status ≡ 0 → ((word : Word) × Asks texts word × Does m IsContinued files s word whole) ⊎ AsksHelp texts
+  pub stopped : status ≡ 1 → Stops m IsContinued files texts s

@@ -4,7 +4,7 @@ ghost use Rattle.std.specs.Io.KnownBytes.{Appends};
 ghost use Rattle.console.specs.Files.{source_of};
 ghost use Rattle.operations.specs.Audits.{TellsSome};
 ghost use Rattle.operations.specs.Machine.{machine_of};
-ghost use Rattle.counter.specs.Extract.{Extracts, LeavesAudit};
+ghost use Rattle.counter.specs.Extract.{IsExamining, Extracts, LeavesAudit};
 
 use crate::fault::agreement_of;
 use crate::host::Host;
@@ -32,7 +32,7 @@ pub fn audit<F: Start + Drop, S: FileSource + AllocGlobal, O: Write, E: Write>(
         (Appends (O.contents output.old) (O.contents output.new))) }
     ensures agreed { IfOk result (λ agree. agree ≡ true → E.contents errors.new ≡ E.contents errors.old) }
     ensures failed { IfOk result (λ agree. agree ≡ false
-        → (words.now.check ≡ true) × TellsSome (E.contents errors.old) (E.contents errors.new)) }
+        → IsExamining words.now × TellsSome (E.contents errors.old) (E.contents errors.new)) }
     ensures refused { IfErr result (LeavesAudit (source_of S.opens S.refuses S.File.remaining host.entry.files.now)
         words.now (O.contents output.old) (O.contents output.new) (E.contents errors.old) (E.contents errors.new)) }
 {
@@ -45,6 +45,7 @@ pub fn audit<F: Start + Drop, S: FileSource + AllocGlobal, O: Write, E: Write>(
         from: words.from,
         to: words.to,
         check: words.check,
+        judge: words.judge,
     };
     let database = host.database(words.db);
     agreement_of(operations::audit(rt.alloc(), database, &inquiry, output, errors))

@@ -1,15 +1,18 @@
 //! The counter of a time-stamping authority (RFC 3161), as a program.
 #![tactic(auto)]
 
+mod additions;
 mod answer;
+mod continuation;
 mod events;
 mod exchange;
+mod explanation;
 mod extract;
 mod fault;
 mod files;
-mod history;
 mod host;
 mod http_request;
+mod laws;
 mod run;
 mod server;
 

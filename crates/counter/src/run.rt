@@ -1,22 +1,24 @@
 ghost use Rattle.std.specs.Prelude.{◌≡◌, ◌≢◌, ◌≤◌, ◌⊎◌, List, ℕ, true, false, Ok, Err, OnOk, IfSome, IfErr, IfOk};
 ghost use Rattle.std.specs.Io.KnownBytes.{Appends};
-ghost use Rattle.command_line.specs.Words.{AreRefused, AreTaken, Asks, AsksHelp, texts_of};
+ghost use Rattle.command_line.specs.Words.{AreRefused, AreTaken, texts_of};
 ghost use Rattle.console.specs.Fault.{fault_line, no_text};
 ghost use Rattle.console.specs.Files.{source_of};
 ghost use Rattle.console.specs.Writes.{Begins};
 ghost use Rattle.counter.specs.Does.{Does, IsNoAudit};
-ghost use Rattle.counter.specs.Extract.{Extracts, LeavesAudit};
+ghost use Rattle.counter.specs.Extract.{IsExamining, Extracts, LeavesAudit};
 ghost use Rattle.counter.specs.Reply.{Replies};
-ghost use Rattle.counter.specs.Stops.{Stops};
+ghost use Rattle.counter.specs.Stops.{Exits};
 ghost use Rattle.counter.specs.Streams.{begun, streams_of, whole};
 ghost use Rattle.operations.specs.Audits.{TellsSome};
 ghost use Rattle.operations.specs.Machine.{image_at, machine_of};
 ghost use Rattle.operations.specs.OverFiles.{IsContinuedOver};
 
+use crate::additions::{calibrate, hold};
 use crate::answer::{answer, octets_of};
+use crate::continuation::continue_in;
 use crate::exchange::exchange;
+use crate::explanation::explain_stamp;
 use crate::extract::audit;
-use crate::history::{calibrate, continue_in, hold};
 use crate::host::Host;
 use crate::server::serve;
 use cms::Signer;
@@ -48,6 +50,8 @@ pub enum Outcome {
     Extracted,
     /// An extract was written, and stamps fail their check.
     Failing,
+    /// A stamp was explained.
+    Explained,
 }
 
 impl Outcome {
@@ -59,7 +63,7 @@ impl Outcome {
     {
         match self {
             Outcome::Replied | Outcome::Counted | Outcome::Changed => DONE,
-            Outcome::Exchanged | Outcome::Served | Outcome::Extracted => DONE,
+            Outcome::Exchanged | Outcome::Served | Outcome::Extracted | Outcome::Explained => DONE,
             Outcome::Failing => FAULT,
         }
     }
@@ -134,12 +138,12 @@ fn take_words<I, O: Write, E: Write>(
 /// 0 where it is done; a rejection and help are done too. 1 where a fault stopped it, whose line it writes to `errors`:
 /// `der`, `tsp`, `cms`, `policy`, `store` and `audit` with the number of those crates' refusals, and `input` 1 where
 /// the input isn't hexadecimal, 2 where a file can't be read, has a wrong size or isn't UTF-8 where it has to be text,
-/// 3 where a hold doesn't begin before it ends, 4 where no account has the key or the name, 5 where the input, the
-/// output or the clock fails, or the database or memory in the middle of an extract by `exchange`, 6 where the address
-/// can't be listened on, 7 where memory runs out, 8 where the signer can't be reached, and 9 where a history is to go
-/// on above what doesn't come after its last stamp. 1 also where stamps fail the check that `audit` makes: a line
-/// `row N fails` for each stands on `errors` then, before the line of a fault that stopped the check. 2 where the words are
-/// refused; why is written to `errors`.
+/// 3 where a hold doesn't begin before it ends, 4 where no account has the key or the name, or no stamp the serial
+/// number, 5 where the input, the output or the clock fails, or the database or memory in the middle of an extract by
+/// `exchange`, 6 where the address can't be listened on, 7 where memory runs out, 8 where the signer can't be reached,
+/// and 9 where a history is to go on above what doesn't come after its last stamp. 1 also where stamps fail the check
+/// that `audit` makes: a line `row N fails` for each stands on `errors` then, before the line of a fault that stopped
+/// the check. 2 where the words are refused; why is written to `errors`.
 ///
 /// Where the status isn't 0 nothing is written to `output`, but where writing an answer or help fails, or an extract is
 /// refused on the way: then a beginning of it stands there; and where a check fails or is stopped: then the whole
@@ -151,15 +155,15 @@ pub fn run_words<F: Start + Drop, S: FileSource + AllocGlobal, I: Read, O: Write
 ) -> u8
     ensures status { result ≤ 2 }
 
-    // Where all is done, what the words ask for is written, or they ask for help.
-    ensures done { result ≡ 0 → ((word : Word) × Asks (texts_of words.now) word
-        × Does (machine_of ⟦<FileFrom<F> as Disk>⟧ F.Start
+    // Where all is done, what the words ask for is written, or they ask for help (`done`). Where a fault stopped it, or
+    // stamps fail their check: what is told, and what is written to the output (`stopped`).
+    ensures exits { Exits (machine_of ⟦<FileFrom<F> as Disk>⟧ F.Start
         ⟦<HostSigner<'static> as Signer>⟧ ⟦<SystemClock<'static, HostRuntime> as Clock>⟧.reads)
         (IsContinuedOver ⟦<FileFrom<F> as Disk>⟧ (image_at F.Start) ⟦<FileFrom<Unknown> as Disk>⟧)
         (source_of S.opens S.refuses S.File.remaining host.entry.files.now)
         (streams_of (I.remaining process.old.input) (I.remaining process.new.input) O.contents process.old.output
-        process.new.output (E.contents process.old.errors) (E.contents process.new.errors)) word whole)
-        ⊎ AsksHelp (texts_of words.now) }
+        process.new.output (E.contents process.old.errors) (E.contents process.new.errors)) (texts_of words.now)
+        result }
 
     // Where all is done, no fault is written.
     ensures silent { result ≡ 0 → E.contents process.new.errors ≡ E.contents process.old.errors }
@@ -171,14 +175,6 @@ pub fn run_words<F: Start + Drop, S: FileSource + AllocGlobal, I: Read, O: Write
     // Words that aren't taken read nothing, whatever the status.
     ensures unread { (result ≡ 2) ⊎ (AreTaken (texts_of words.now) → ⊥)
         → I.remaining process.new.input ≡ I.remaining process.old.input }
-
-    // Where a fault stopped it, or stamps fail their check: what is told, and what is written to the output.
-    ensures stopped { result ≡ 1 → Stops (machine_of ⟦<FileFrom<F> as Disk>⟧ F.Start
-        ⟦<HostSigner<'static> as Signer>⟧ ⟦<SystemClock<'static, HostRuntime> as Clock>⟧.reads)
-        (IsContinuedOver ⟦<FileFrom<F> as Disk>⟧ (image_at F.Start) ⟦<FileFrom<Unknown> as Disk>⟧)
-        (source_of S.opens S.refuses S.File.remaining host.entry.files.now) (texts_of words.now)
-        (streams_of (I.remaining process.old.input) (I.remaining process.new.input) O.contents process.old.output
-        process.new.output (E.contents process.old.errors) (E.contents process.new.errors)) }
 {
     let Process {
         input,
@@ -214,7 +210,7 @@ fn run_word<F: Start + Drop, S: FileSource + AllocGlobal, I: Read, O: Write, E: 
 
     // Only where stamps are checked some may fail.
     ensures failing { IfOk result (λ outcome. outcome ≡ Outcome.Failing → (words : AuditWords)
-        × (word.now ≡ Word.Audit words) × (words.check ≡ true)
+        × (word.now ≡ Word.Audit words) × IsExamining words
         × Extracts (machine_of ⟦<FileFrom<F> as Disk>⟧ F.Start ⟦<HostSigner<'static> as Signer>⟧
         ⟦<SystemClock<'static, HostRuntime> as Clock>⟧.reads)
         (source_of S.opens S.refuses S.File.remaining host.entry.files.now) words (O.contents output.old)
@@ -287,6 +283,10 @@ fn run_word<F: Start + Drop, S: FileSource + AllocGlobal, I: Read, O: Write, E: 
             } else {
                 Ok(Outcome::Failing)
             }
+        }
+        Word::Explain(words) => {
+            explain_stamp(host, words, output)?;
+            Ok(Outcome::Explained)
         }
     }
 }

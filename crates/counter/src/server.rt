@@ -67,10 +67,10 @@ impl DeskOperation<(), ()> for Serving<'_> {
         let limit = connection_limit();
         let rt = self.rt;
         let mut clock = SystemClock::new(rt);
-        match Listening::new(rt, rt, &listener, limit, self.octets) {
+        match Listening::new(rt, rt, listener, limit, self.octets) {
             Ok(mut listening) => {
                 if self.tell {
-                    tell_listening(rt, &listener, self.address, self.begun);
+                    tell_listening(rt, &listening.acceptor, self.address, self.begun);
                 }
                 let SignedDesk { desk, signer } = signed;
                 match serve_connections(

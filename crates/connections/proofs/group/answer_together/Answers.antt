@@ -13,7 +13,8 @@ write_each-requires g c =
         arith,
         ap length c.deref-in-Some.ensures.value,
         length-map c.in-Some.replies.items reply_as,
-        as_many_judged c.args.desk.now.setting.file r.asked (map reply_as c.in-Some.replies.items) r.answered.judged,
+        as_many_judged c.args.desk.now.setting.file r.asked (map reply_as c.in-Some.replies.items) r.answered.outcomes
+            r.answered.judged,
         as_many_asked c.args.desk.now.setting.file (map handed_view c.deref.result.now) r.asked r.each,
         length-map c.deref.result.now handed_view,
         ap length c.deref.ensures.value,

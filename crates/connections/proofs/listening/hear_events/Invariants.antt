@@ -3,4 +3,4 @@ use Rattle.connections.specs.Waiting.{places_of}
 use Rattle.connections.proofs.listening.hear_events.Given as goal
 
 abbrev pub invariant-loop-event : goal.invariant-loop-event
-invariant-loop-event l = places_of l.places ≡ places_of l.fn.places
+invariant-loop-event g l = places_of l.places ≡ places_of l.fn.places

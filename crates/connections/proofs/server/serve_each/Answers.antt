@@ -1,55 +1,18 @@
-use Rattle.connections.specs.Heard.{hall}
-use Rattle.connections.proofs.HeardLemmas.{told_from, told_setting, told_honest, told_run}
+use Rattle.connections.proofs.HeardLemmas.{told_setting, told_honest, told_run}
 use Rattle.connections.proofs.RunLemmas.{RunLaws}
 use Rattle.connections.proofs.server.serve_each.Goals as goal
 
-pub returns-clause-heard : goal.returns-clause-heard
-returns-clause-heard g c =
-    let told = told_from g.L.Hearing.hands g.L.Hearing.fails g.L.Hearing.stays g.L.Hearing.takes_back g.L.Stream.Write.contents g.C.Clock.reads
-    g.B.Standing g.G.Signer.signs g.G.Signer.fault_count
-    c.args.count c.args.hearing.now c.args.clock.now c.args.desk.now c.desks_are_proper.new.desk c.args.signer.now
-    c.desks_are_proper.new.signer
-    (hall c.answer_all.new.hearing c.answer_all.new.clock c.answer_all.new.desk c.answer_all.new.signer)
-    c.answer_all.result c.desks_are_proper.ensures.desk c.desks_are_proper.ensures.signer
-    (c.answer_all.ensures.heard, c.answer_all.ensures.stopped) in
-    told.0
-
-pub returns-clause-stopped : goal.returns-clause-stopped
-returns-clause-stopped g c =
-    let told = told_from g.L.Hearing.hands g.L.Hearing.fails g.L.Hearing.stays g.L.Hearing.takes_back g.L.Stream.Write.contents g.C.Clock.reads
-    g.B.Standing g.G.Signer.signs g.G.Signer.fault_count
-    c.args.count c.args.hearing.now c.args.clock.now c.args.desk.now c.desks_are_proper.new.desk c.args.signer.now
-    c.desks_are_proper.new.signer
-    (hall c.answer_all.new.hearing c.answer_all.new.clock c.answer_all.new.desk c.answer_all.new.signer)
-    c.answer_all.result c.desks_are_proper.ensures.desk c.desks_are_proper.ensures.signer
-    (c.answer_all.ensures.heard, c.answer_all.ensures.stopped) in
-    told.1
-
 pub returns-clause-setting : goal.returns-clause-setting
 returns-clause-setting g c =
-    let told = told_from g.L.Hearing.hands g.L.Hearing.fails g.L.Hearing.stays g.L.Hearing.takes_back g.L.Stream.Write.contents g.C.Clock.reads
-    g.B.Standing g.G.Signer.signs g.G.Signer.fault_count
-    c.args.count c.args.hearing.now c.args.clock.now c.args.desk.now c.desks_are_proper.new.desk c.args.signer.now
-    c.desks_are_proper.new.signer
-    (hall c.answer_all.new.hearing c.answer_all.new.clock c.answer_all.new.desk c.answer_all.new.signer)
-    c.answer_all.result c.desks_are_proper.ensures.desk c.desks_are_proper.ensures.signer
-    (c.answer_all.ensures.heard, c.answer_all.ensures.stopped) in
-    told_setting g.L.Hearing.hands g.L.Hearing.fails g.L.Hearing.stays g.L.Hearing.takes_back g.L.Stream.Write.contents g.C.Clock.reads
-    g.B.Standing g.G.Signer.signs g.G.Signer.fault_count
-    c.args.count _ _ c.answer_all.result told
+    told_setting g.L.Hearing.hands g.L.Hearing.fails g.L.Hearing.stays g.L.Hearing.takes_back
+    g.L.Stream.Write.contents g.C.Clock.reads g.B.Standing g.G.Signer.signs g.G.Signer.fault_count c.args.count _ _
+    c.answer_all.result (c.answer_all.ensures.heard, c.answer_all.ensures.stopped)
 
 pub returns-clause-honest : goal.returns-clause-honest
 returns-clause-honest g c =
-    let told = told_from g.L.Hearing.hands g.L.Hearing.fails g.L.Hearing.stays g.L.Hearing.takes_back g.L.Stream.Write.contents g.C.Clock.reads
-    g.B.Standing g.G.Signer.signs g.G.Signer.fault_count
-    c.args.count c.args.hearing.now c.args.clock.now c.args.desk.now c.desks_are_proper.new.desk c.args.signer.now
-    c.desks_are_proper.new.signer
-    (hall c.answer_all.new.hearing c.answer_all.new.clock c.answer_all.new.desk c.answer_all.new.signer)
-    c.answer_all.result c.desks_are_proper.ensures.desk c.desks_are_proper.ensures.signer
-    (c.answer_all.ensures.heard, c.answer_all.ensures.stopped) in
-    told_honest g.L.Hearing.hands g.L.Hearing.fails g.L.Hearing.stays g.L.Hearing.takes_back g.L.Stream.Write.contents g.C.Clock.reads
-    g.B.Standing g.G.Signer.signs g.G.Signer.fault_count
-    c.args.count _ _ c.answer_all.result told
+    told_honest g.L.Hearing.hands g.L.Hearing.fails g.L.Hearing.stays g.L.Hearing.takes_back
+    g.L.Stream.Write.contents g.C.Clock.reads g.B.Standing g.G.Signer.signs g.G.Signer.fault_count c.args.count _ _
+    c.answer_all.result (c.answer_all.ensures.heard, c.answer_all.ensures.stopped)
 
 pub returns-clause-served : goal.returns-clause-served
 returns-clause-served g c =
@@ -62,13 +25,6 @@ returns-clause-served g c =
       isolated = c.accounts_are_isolated.ensures;
       undisturbed = c.accounts_disturb_little.ensures;
     } in
-    let told = told_from g.L.Hearing.hands g.L.Hearing.fails g.L.Hearing.stays g.L.Hearing.takes_back g.L.Stream.Write.contents g.C.Clock.reads
-    g.B.Standing g.G.Signer.signs g.G.Signer.fault_count
-    c.args.count c.args.hearing.now c.args.clock.now c.args.desk.now c.desks_are_proper.new.desk c.args.signer.now
-    c.desks_are_proper.new.signer
-    (hall c.answer_all.new.hearing c.answer_all.new.clock c.answer_all.new.desk c.answer_all.new.signer)
-    c.answer_all.result c.desks_are_proper.ensures.desk c.desks_are_proper.ensures.signer
-    (c.answer_all.ensures.heard, c.answer_all.ensures.stopped) in
-    told_run g.L.Hearing.hands g.L.Hearing.fails g.L.Hearing.stays g.L.Hearing.takes_back g.L.Stream.Write.contents g.C.Clock.reads
-    g.B.Standing g.G.Signer.signs g.G.Signer.fault_count
-    laws c.args.count _ _ c.answer_all.result c.desks_are_proper.ensures.proper told
+    told_run g.L.Hearing.hands g.L.Hearing.fails g.L.Hearing.stays g.L.Hearing.takes_back g.L.Stream.Write.contents
+    g.C.Clock.reads g.B.Standing g.G.Signer.signs g.G.Signer.fault_count laws c.args.count _ _ c.answer_all.result
+    c.desks_are_proper.ensures (c.answer_all.ensures.heard, c.answer_all.ensures.stopped)

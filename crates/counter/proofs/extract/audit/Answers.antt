@@ -23,6 +23,7 @@ returns-clause-extracted g c =
       first = refl;
       last = refl;
       check = refl;
+      judge = refl;
       allowed = it.0.0;
       audited = rw it.1.1 at it.1.0;
       stamps = it.0.1.0;

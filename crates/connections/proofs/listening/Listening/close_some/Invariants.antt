@@ -3,4 +3,5 @@ use Rattle.connections.specs.Waiting.{places_of}
 use Rattle.connections.proofs.listening.Listening.close_some.Given as goal
 
 abbrev pub invariant-loop : goal.invariant-loop
-invariant-loop g l = places_of l.self.places ≡ places_of l.initial.self.places
+invariant-loop g l =
+    (l.self.acceptor ≡ l.initial.self.acceptor) × (places_of l.self.places ≡ places_of l.initial.self.places)

@@ -1,24 +1,27 @@
-use Rattle.sockets.specs.declared.stream.Stream.{Stream}
-use Rattle.std.specs.declared.io.traits.Read.{remaining-default}
-use Rattle.connections.specs.Waiting.{places_of}
-use Rattle.connections.proofs.PlacesLemmas.{done_later, fails_here, waits_none, waits_then}
+use Rattle.std.proofs.Common.{◌≤◌, rules}
+use Rattle.connections.specs.Places.{most_rounds}
+use Rattle.connections.specs.Waiting.{intake}
+use Rattle.connections.proofs.PlacesLemmas.{comes_later, fails_unheard, rounds_none, rounds_then}
 use Rattle.connections.proofs.listening.Listening.next_whole.Goals as goal
 
-pub loop-init : goal.loop-init
-loop-init g c = waits_none (remaining-default Stream) c.args.most (places_of c.args.self.now.places)
+pub loop-round-init : goal.loop-round-init
+loop-round-init g c = rounds_none g.A.Acceptor.tells g.A.Acceptor.fails g.A.Stream.Read.remaining c.args.most (intake c.args.self.now.acceptor c.args.self.now.places)
 
-pub loop-preserved : goal.loop-preserved
-loop-preserved g c =
-    waits_then (remaining-default Stream) c.args.most (places_of c.args.self.now.places)
-    (places_of c.loop.self.places) (places_of c.next_done.new.self.places) c.loop.invariant c.in_default.ensures
+pub loop-round-preserved : goal.loop-round-preserved
+loop-round-preserved g c =
+    rounds_then g.A.Acceptor.tells g.A.Acceptor.fails g.A.Stream.Read.remaining c.args.most c.loop-round.round (intake c.args.self.now.acceptor c.args.self.now.places)
+    (intake c.loop-round.self.acceptor c.loop-round.self.places)
+    (intake c.next_done.new.self.acceptor c.next_done.new.self.places) c.loop-round.invariant c.in_default.ensures
 
 pub returns-in-Some : goal.returns-in-Some
 returns-in-Some g c =
-    done_later (remaining-default Stream) c.args.most (places_of c.args.self.now.places)
-    (places_of c.loop.self.places) (places_of c.next_done.new.self.places) c.loop.invariant c.in-Some.done
+    comes_later g.A.Acceptor.tells g.A.Acceptor.fails g.A.Stream.Read.remaining c.args.most (intake c.args.self.now.acceptor c.args.self.now.places)
+    (intake c.loop-round.self.acceptor c.loop-round.self.places)
+    (intake c.next_done.new.self.acceptor c.next_done.new.self.places) c.loop-round.invariant.0 c.in-Some.done
     c.in-Some.ensures
 
 pub returns : goal.returns
 returns g c =
-    fails_here (remaining-default Stream) c.args.most (places_of c.args.self.now.places)
-    (places_of c.loop.self.places) c.loop.invariant
+    let all : most_rounds ≤ c.loop-round.round = search rules in
+    fails_unheard g.A.Acceptor.tells g.A.Acceptor.fails g.A.Stream.Read.remaining c.args.most c.loop-round.round (intake c.args.self.now.acceptor c.args.self.now.places)
+    (intake c.loop-round.self.acceptor c.loop-round.self.places) c.loop-round.invariant all

@@ -1,10 +1,8 @@
-use Rattle.sockets.specs.declared.stream.Stream.{Stream}
-use Rattle.std.specs.declared.io.traits.Read.{remaining-default}
-use Rattle.connections.specs.Places.{AreWaitedFor}
-use Rattle.connections.specs.Waiting.{places_of}
+use Rattle.connections.specs.Places.{AreRounds}
+use Rattle.connections.specs.Waiting.{intake}
 use Rattle.connections.proofs.listening.Listening.next_whole.Given as goal
 
-abbrev pub invariant-loop : goal.invariant-loop
-invariant-loop g l =
-    AreWaitedFor {S = Stream} (remaining-default Stream) l.most (places_of l.initial.self.places)
-    (places_of l.self.places)
+abbrev pub invariant-loop-round : goal.invariant-loop-round
+invariant-loop-round g l =
+    AreRounds g.A.Acceptor.tells g.A.Stream.Read.remaining l.round l.most
+    (intake l.initial.self.acceptor l.initial.self.places) (intake l.self.acceptor l.self.places)

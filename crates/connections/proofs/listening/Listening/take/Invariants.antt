@@ -1,10 +1,12 @@
 use Rattle.std.proofs.Common.{◌-◌, length}
 use Rattle.connections.specs.Places.{AreAdded}
-use Rattle.connections.specs.Waiting.{places_of}
+use Rattle.connections.specs.Waiting.{intake, places_of}
 use Rattle.connections.proofs.listening.Listening.take.Given as goal
 
 abbrev pub invariant-taking : goal.invariant-taking
-invariant-taking g l = AreAdded l.most (places_of l.initial.self.places) (places_of l.self.places)
+invariant-taking g l =
+    AreAdded g.A.Acceptor.tells l.most (intake l.initial.self.acceptor l.initial.self.places)
+    (intake l.self.acceptor l.self.places)
 
 abbrev pub decreases-taking : goal.decreases-taking
-decreases-taking g l = l.most - length (places_of l.self.places)
+decreases-taking g l = l.room - length (places_of l.self.places)

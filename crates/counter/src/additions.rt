@@ -1,57 +1,18 @@
-//! What the words of an operator do to the database.
-ghost use Rattle.std.specs.Prelude.{◌≡◌, ◌<◌, ◌≤◌, Err, IfOk, IfErr, OnOk};
+//! The words `calibrate` and `hold`.
+ghost use Rattle.std.specs.Prelude.{◌≡◌, ◌<◌, ◌≤◌, Err, IfOk, IfErr};
 ghost use Rattle.book.specs.Values.{calibration_view, hold_view};
-ghost use Rattle.operations.specs.Machine.{image_at};
-ghost use Rattle.operations.specs.OverFiles.{IsContinuedOver, IsRefusedOver};
-ghost use Rattle.counter.specs.Calibration.{Calibrates, calibration_of};
-ghost use Rattle.counter.specs.Continuation.{floor_of};
-ghost use Rattle.counter.specs.Hold.{Holds, hold_of};
-ghost use Rattle.counter.specs.Fault.{fault_of_continuation};
 ghost use Rattle.console.specs.Fault.{IsStoreFault};
 ghost use Rattle.operations.specs.Machine.{machine_of};
+ghost use Rattle.counter.specs.Calibration.{Calibrates, calibration_of};
+ghost use Rattle.counter.specs.Hold.{Holds, hold_of};
 
-use crate::fault::fault_of_continuation;
 use book::{Calibration, Hold};
 use cms::Signer;
-use command_line::{CalibrateWords, ContinueWords, HoldWords};
+use command_line::{CalibrateWords, HoldWords};
 use connections::{Clock, SystemClock};
 use console::{Fault, InputFault};
-use operations::{
-    Addition, ContinuationFault, Database, Disk, FileFrom, Floor, HostFiles, HostSigner, Start,
-};
+use operations::{Addition, Database, Disk, FileFrom, HostFiles, HostSigner, Start};
 use std::alloc::Global;
-
-/// Closes a database for tokens, and has its history go on in a new one, above what the words state. It is `input` 9
-/// where that doesn't come after the last stamp, or there is none.
-pub fn continue_in<F: Start + Drop, N: Start + Drop>(
-    alloc: Global,
-    old: Database<'_, HostFiles<'_, F>>,
-    new: Database<'_, HostFiles<'_, N>>,
-    words: &ContinueWords<'_>,
-) -> Result<(), Fault>
-    ensures continued { OnOk result (IsContinuedOver ⟦<FileFrom<F> as Disk>⟧ (image_at F.Start)
-        ⟦<FileFrom<N> as Disk>⟧ (floor_of words.now)) }
-
-    // By the refusal, what was done to the old database.
-    ensures refused { IfErr result (λ fault. (refusal : ContinuationFault) × (fault ≡ fault_of_continuation refusal)
-        × IsRefusedOver ⟦<FileFrom<F> as Disk>⟧ (image_at F.Start) (floor_of words.now) refusal) }
-{
-    match operations::continue_in(alloc, old, new, floor_of(words)) {
-        Ok(()) => Ok(()),
-        Err(refusal) => Err(fault_of_continuation(refusal)),
-    }
-}
-
-/// Above what the history goes on, where the words state it.
-fn floor_of(words: &ContinueWords<'_>) -> Option<Floor>
-    ensures { result ≡ floor_of words.now }
-{
-    let floor = words.floor?;
-    Some(Floor {
-        serial: floor.above,
-        gen_time: floor.moment,
-    })
-}
 
 /// Adds the calibration that the words state.
 pub fn calibrate<F: Start + Drop>(

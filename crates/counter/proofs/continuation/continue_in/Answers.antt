@@ -1,4 +1,4 @@
-use Rattle.counter.proofs.history.continue_in.Goals as goal
+use Rattle.counter.proofs.continuation.continue_in.Goals as goal
 
 pub returns-in-Ok-clause-continued : goal.returns-in-Ok-clause-continued
 returns-in-Ok-clause-continued g c = rw c.floor_of.ensures at c.in-Ok.ensures.continued
