@@ -9,10 +9,10 @@ use std::time::Duration;
 use trials::{AtDesk, at_desk_of_work};
 
 /// Connections that are served.
-#[derive(Clone, Copy)]
+#[derive(Drop)]
 struct Serving<'l> {
     rt: &'l HostRuntime,
-    listener: &'l Listener,
+    listening: Listening<'l, Listener, HostRuntime>,
     count: u32,
 }
 
@@ -22,22 +22,20 @@ impl AtDesk for Serving<'_> {
         desk: &mut Desk<'_, B>,
         signer: &mut KeyedHash,
     ) -> anyhow::Result<()> {
-        let rt = self.rt;
-        let mut clock = SystemClock::new(rt);
-        let limit = Duration::from_secs(CONNECTION_SECONDS);
-        let mut listening = Listening::new(rt, rt, self.listener, limit, None)?;
-        serve_connections(&mut listening, self.count, &mut clock, desk, signer)?;
+        let mut clock = SystemClock::new(self.rt);
+        serve_connections(&mut self.listening, self.count, &mut clock, desk, signer)?;
         Ok(())
     }
 }
 
 /// Serves so many connections at a desk whose clock is calibrated at its reading.
-fn serve_at(rt: &HostRuntime, listener: &Listener, count: u32) -> anyhow::Result<()> {
+fn serve_at(rt: &HostRuntime, listener: Listener, count: u32) -> anyhow::Result<()> {
     let mut clock = SystemClock::new(rt);
     let reading = clock.reading()?;
+    let limit = Duration::from_secs(CONNECTION_SECONDS);
     let mut serving = Serving {
         rt,
-        listener,
+        listening: Listening::new(rt, rt, listener, limit, None)?,
         count,
     };
     at_desk_of_work(rt.alloc(), reading, &mut serving)
@@ -48,7 +46,7 @@ pub fn serve(rt: &HostRuntime, count: u32) -> anyhow::Result<()> {
     if count > 0 {
         let listener = TcpListener::bind(rt, "127.0.0.1:0")?;
         println!(rt; "{}", listener.local_addr()?.port())?;
-        serve_at(rt, &Listener::Tcp(listener), count)?;
+        serve_at(rt, Listener::Tcp(listener), count)?;
     }
     Ok(())
 }

@@ -3,6 +3,7 @@ use crate::lists::{tell_list, tell_rows};
 use cms::{Algorithm, Identity, Signer};
 use desk::{Answer, Begun, Command, Desk, Fault, Pending, Reply};
 use policy::Account;
+use std::alloc::{AllocError, Global};
 use store::Book;
 use transcript::Printer;
 
@@ -231,6 +232,44 @@ pub fn run_all<'p, B: Book + Drop, G: Signer>(
             }
         }
         Err(fault) => printer.tell(&fault),
+    }
+}
+
+/// Commands by which an account asks for the deposits from number 0 on, so many.
+fn shows<'a, 'p>(
+    alloc: Global,
+    account: &'a Account,
+    count: u64,
+) -> Result<Vec<Command<'a, 'p>>, AllocError> {
+    let mut commands = Vec::new(alloc);
+    for number in 0..count {
+        commands.push(Command::Show { account, number })?;
+    }
+    Ok(commands)
+}
+
+/// Tells how many answers there are, and which of them show a deposit.
+fn tell_shown_among(printer: Printer<'_>, answers: &[Answer]) {
+    printer.number("answers", answers.len() as u64);
+    for (number, answer) in answers.iter().enumerate() {
+        if matches!(answer, Answer::Shown(_)) {
+            printer.number("shown", number as u64);
+        }
+    }
+}
+
+/// Runs a list of so many such commands, and tells of the answers.
+pub fn tell_shows<B: Book + Drop, G: Signer>(
+    printer: Printer<'_>,
+    desk: &mut Desk<'_, B>,
+    account: &Account,
+    count: u64,
+    signer: &mut G,
+) {
+    if let Ok(commands) = shows(printer.rt.alloc(), account, count)
+        && let Ok(answers) = run(desk, &commands, signer)
+    {
+        tell_shown_among(printer, &answers);
     }
 }
 

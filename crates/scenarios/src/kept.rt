@@ -1,5 +1,6 @@
 //! The store of a scenario, and what it offers besides a book's calls.
 use book::Entry;
+use counter_fakes::FailingBook;
 use sqlite::{Alter, Connection, MemStore};
 use std::alloc::Global;
 use store::{Book, StampsBetween, Store, StoreFault};
@@ -10,11 +11,17 @@ pub type Place = MemStore;
 /// A store, or why it was refused, and the connection.
 pub type Opened<B> = Result<B, (StoreFault, Connection<Place>)>;
 
-/// A book that hands out its stamps. Scenarios are played over any such, so that only the functions here are proved of
-/// the store itself.
+/// A book that hands out its stamps, and one of whose calls can fail. Scenarios are played over any such, so that only
+/// the functions here are proved of the store itself.
 pub trait Kept: Book + Drop {
+    /// The book whose stamps they are.
+    type Base: Book;
+
     /// The stamps of a range, one at a time.
-    fn stamps(&mut self, from: u64, to: u64) -> StampsBetween<'_, Self>;
+    fn stamps(&mut self, from: u64, to: u64) -> StampsBetween<'_, Self::Base>;
+
+    /// Has one of the next calls fail: 1 is the next one.
+    fn fail(&mut self, call: u64);
 }
 
 /// What lies over a connection.
@@ -53,22 +60,33 @@ fn adopt<S: Alter + Drop>(
     Store::adopt(alloc, conn)
 }
 
-impl<S: Alter + Drop> Kept for Store<S> {
+impl<S: Alter + Drop> Kept for FailingBook<Store<S>> {
+    type Base = Store<S>;
+
     fn stamps(&mut self, from: u64, to: u64) -> StampsBetween<'_, Store<S>> {
-        self.stamps_between(from, to)
+        self.book.stamps_between(from, to)
+    }
+
+    fn fail(&mut self, call: u64) {
+        self.failing = call;
     }
 }
 
-impl Connected for Store<Place> {
-    fn make(alloc: Global, conn: Connection<Place>, entries: &[Entry<'_>]) -> Opened<Store<Place>> {
-        create(alloc, conn, entries)
+impl Connected for FailingBook<Store<Place>> {
+    fn make(alloc: Global, conn: Connection<Place>, entries: &[Entry<'_>]) -> Opened<Self> {
+        create(alloc, conn, entries).map(|store| FailingBook::new(store))
     }
 
-    fn take(alloc: Global, conn: Connection<Place>) -> Opened<Store<Place>> {
-        adopt(alloc, conn)
+    fn take(alloc: Global, conn: Connection<Place>) -> Opened<Self> {
+        adopt(alloc, conn).map(|store| FailingBook::new(store))
     }
 
     fn connection(self) -> Connection<Place> {
-        self.into_connection()
+        let FailingBook {
+            book,
+            failing: _,
+            faults: _,
+        } = self;
+        book.into_connection()
     }
 }

@@ -4,7 +4,7 @@
 
 mod bench;
 mod commands;
-mod connections;
+mod connection_calls;
 mod desks;
 mod entries;
 mod extracts;

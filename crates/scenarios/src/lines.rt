@@ -1,13 +1,14 @@
 //! Scenarios, line by line.
 use crate::bench::{Bench, Tools, tools_of};
 use crate::commands::{Reader, command_of};
-use crate::connections::{ask, connect, execute, make, part, take};
-use crate::desks::{self, finish_backwards, leave, run_all};
+use crate::connection_calls::{ask, connect, execute, make, part, take};
+use crate::desks::{self, finish_backwards, leave, run_all, tell_shows};
 use crate::kept::{Connected, Kept, Place};
 use crate::laws::{call_of_desk, call_of_store, number};
 use crate::setting::{Setting, setting_of};
 use crate::{extracts, requests, rows, stores, table_calls};
 use audit::Inquiry;
+use counter_fakes::FailingBook;
 use desk::{Command, Desk};
 use policy::{Account, EXAMPLE};
 use std::alloc::{AllocError, Global};
@@ -23,6 +24,16 @@ const UNMARK: usize = 1_000_033;
 /// Makes such an allocation.
 fn mark(alloc: Global, octets: usize) {
     drop(Vec::<u8>::with_capacity(alloc, octets));
+}
+
+/// Runs a list of commands by which an account asks for deposits.
+fn call_shows<B: Book + Drop>(bench: &mut Bench<'_, B>, words: &mut Words<'_>) {
+    if let Some(desk) = &mut bench.desk
+        && let Some(account) = bench.setting.account(words.next())
+    {
+        let count = words.number();
+        tell_shows(bench.printer, desk, account, count, &mut bench.tools.signer);
+    }
 }
 
 /// Makes a call of the store.
@@ -198,6 +209,7 @@ fn call_above<'p, B: Kept>(bench: &mut Bench<'p, B>, word: &str, words: &mut Wor
         "audit" => call_audit(bench, words),
         "begin" => bench.commands = Some(Vec::new(bench.alloc)),
         "run" => run(bench),
+        "shows" => call_shows(bench, words),
         "holder" => tell_signer(bench.printer, &bench.tools),
         "serve" | "cut" | "fail" | "end" => call_service(bench, word, words),
         "backwards" | "leave" | "fronts" => call_desk(bench, word, words),
@@ -257,7 +269,7 @@ fn play_over<'p, B: Kept + Connected>(
 
 fn play_under<'p>(printer: Printer<'p>, setting: &'p Setting, scenario: &'p str) {
     match tools_of(printer.rt.alloc(), scenario) {
-        Some(tools) => play_over::<Store<Place>>(printer, setting, scenario, tools),
+        Some(tools) => play_over::<FailingBook<Store<Place>>>(printer, setting, scenario, tools),
         None => printer.line("no signer"),
     }
 }

@@ -287,6 +287,7 @@ pub fn call<B: Kept>(printer: Printer<'_>, store: &mut B, words: &mut Words<'_>)
         "walk" => walk(printer, store, words),
         "check" => check(printer, store, words),
         "flip" => flip(printer, store, words),
+        "fail" => store.fail(words.number()),
         _ => call_book(printer, store, word, words),
     }
 }

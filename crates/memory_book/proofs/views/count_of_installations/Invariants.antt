@@ -1,9 +1,0 @@
-use Rattle.std.proofs.Common.{◌≡◌, ◌+◌, ◌≤◌, drop, length}
-use Rattle.book.specs.History.{installations}
-use Rattle.memory_book.specs.Entries.{history_of}
-use Rattle.memory_book.proofs.views.count_of_installations.Given as goal
-
-abbrev pub invariant-loop-entry : goal.invariant-loop-entry
-invariant-loop-entry l =
-    (l.count + length (installations (history_of (drop l.entry-index l.entries))) ≡ length (installations (history_of l.entries)))
-    × (l.count ≤ l.entry-index)
