@@ -172,6 +172,21 @@ def move_aside(machine, file=places.DATABASE):
     return folder
 
 
+def put_rules_back(machine, folder):
+    """Puts the policy files that a backup has beside the database again; a list of which counted when that isn't the
+    backup's goes aside."""
+    kept, own = f"{folder}/rules", f"{places.KEPT_RULES}/list"
+    names = sorted(os.listdir(machine.path(kept))) if machine.exists(kept) else []
+    if "list" in names and machine.exists(own) and machine.octets(own) != machine.octets(f"{kept}/list"):
+        other = aside(machine)
+        machine.folder(other, 0o700, "counter", "counter")
+        machine.move(own, f"{other}/rules-list")
+    for name in names:
+        machine.folder(places.KEPT_RULES, 0o750, "counter", "counter")
+        if not machine.exists(f"{places.KEPT_RULES}/{name}"):
+            machine.copy(f"{kept}/{name}", f"{places.KEPT_RULES}/{name}", "counter")
+
+
 def look_at_backup(machine, folder):
     """Verifies a backup: its digest, the database, and each row; its greatest serial number, and that one's moment."""
     copy = f"{folder}/counter.db"

@@ -108,6 +108,7 @@ def go_on(machine, plan):
     old = f"{places.DATA}/{plan['name']}.db"
     units.stop_counter(machine)
     if not machine.exists(old):
+        database.put_rules_back(machine, plan["folder"])
         machine.copy(f"{plan['folder']}/counter.db", old, "counter")
     if machine.exists(places.DATABASE):
         return

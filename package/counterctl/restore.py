@@ -1,4 +1,4 @@
-"""Makes a backup the database again, once everything about it is verified."""
+"""Makes a backup the database again, with its policy files, once everything about it is verified."""
 
 import os
 
@@ -27,6 +27,7 @@ def do(machine, given):
     aside = database.move_aside(machine)
     if aside:
         machine.tell(f"database: the present one is in {aside}")
+    database.put_rules_back(machine, folder)
     machine.copy(f"{folder}/counter.db", places.DATABASE, "counter")
     units.start(machine)
     if not machine.dry_run:
