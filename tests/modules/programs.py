@@ -52,16 +52,27 @@ BETWEEN_MARKS = {"REFUSED_AFTER": "1000003", "REFUSED_BEFORE": "1000033"}
 class Wrong:
     """What was found wrong, told as it is found."""
 
-    count = 0
+    # of what is told again at the end: so many, and so many characters of each
+    MOST = 8
+    LENGTH = 700
+
+    def __init__(self):
+        self.found = []
+
+    @property
+    def count(self):
+        return len(self.found)
 
     def unless(self, what, got, want):
         if got != want:
-            self.count += 1
-            print(f"{what}: got {got!r}, want {want!r}", flush=True)
+            self.found.append(f"{what}: got {got!r}, want {want!r}")
+            print(self.found[-1], flush=True)
 
     def ended(self, what):
-        """Tells at the end of a test what it did, and how much was wrong; its status."""
+        """Tells at the end of a test what it did, how much was wrong, and the first of it again; its status."""
         print(f"{what}; {self.count} wrong")
+        for told in self.found[: self.MOST]:
+            print(told[: self.LENGTH])
         return self.count > 0
 
 

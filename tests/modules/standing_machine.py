@@ -2,6 +2,7 @@
 and others; each change may be the one before which it is stopped."""
 
 import contextlib
+import glob
 import hashlib
 import io
 import os
@@ -145,10 +146,13 @@ class Standing:
         if os.path.exists(f"{database}-wal"):
             shutil.copyfile(f"{database}-wal", os.path.join(folder, "counter.db-wal"))
         subprocess.run(["sqlite3", os.path.join(folder, "counter.db"), "PRAGMA user_version"], check=True, stdout=-3)
+        if os.path.exists(self.path("/var/lib/counter/rules")):
+            shutil.copytree(self.path("/var/lib/counter/rules"), os.path.join(folder, "rules"))
         self.sum(folder)
         return f"/var/backups/counter/{name}"
 
     def sum(self, folder):
-        digest = subprocess.run(["sha256sum", "counter.db"], cwd=folder, capture_output=True, check=True).stdout
+        names = ["counter.db", *sorted(glob.glob("rules/*", root_dir=folder))]
+        digest = subprocess.run(["sha256sum", *names], cwd=folder, capture_output=True, check=True).stdout
         with open(os.path.join(folder, "SHA256SUMS"), "wb") as file:
             file.write(digest)
