@@ -15,7 +15,6 @@ use crate::signer::{error_of, signer_words};
 use crate::table::{
     ACCURACIES, CONNECTIONS, DIGITS, MOMENTS, SERIALS, UNCERTAINTIES, WHOLE_NUMBERS,
 };
-use crate::version::LOGIC;
 use crate::words::{
     AnswerWords, AuditWords, CalibrateWords, CheckWords, ContinueWords, DeskWords, ExchangeWords,
     ExplainWords, FloorWords, HoldWords, InitWords, MigrateWords, ServeWords, TstWords, Word,
@@ -90,16 +89,17 @@ fn refusal_of(alloc: Global, words: &[String], error: &Error) -> Result<WordsRef
     let text = format!(in alloc; "{error}")?;
     if error.use_stderr() {
         Ok(WordsRefusal::Mistake(text))
-    } else if is_long_version(words, error) {
-        let long = format!(in alloc; "{text}{LOGIC}\n")?;
-        Ok(WordsRefusal::Help(long))
+    } else if error.kind() == ErrorKind::DisplayVersion && !is_long(words) {
+        let (version, _) = text.split_once('\n').unwrap_or((text.as_str(), ""));
+        let line = format!(in alloc; "{version}\n")?;
+        Ok(WordsRefusal::Help(line))
     } else {
         Ok(WordsRefusal::Help(text))
     }
 }
 
-fn is_long_version(words: &[String], error: &Error) -> bool {
-    error.kind() == ErrorKind::DisplayVersion && words.iter().any(|word| word.as_str() == "--long")
+fn is_long(words: &[String]) -> bool {
+    words.iter().any(|word| word.as_str() == "--long")
 }
 
 fn word_of<'a>(matches: &ArgMatches<'a>) -> Option<Word<'a>>
