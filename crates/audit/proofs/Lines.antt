@@ -383,12 +383,3 @@ asked_more g old now next from to left last left' last' asked asked' asked'' bef
   times = asked_then before.told asked asked' asked'' before.times times;
   splits = λ h b s. omega (arith, before.splits (looks.honest h) b s, one h b (looked.stands b s));
 }
-
-pub asked_all : {B : Type 0} (g : Ghosts B) (old now next : B) (from to left last : ℕ) (asked asked' : Option ℕ)
-    → IsAskedOf g old now from to left last asked asked' → OnlyLooks g old now → OnlyLooks g now next
-    → (g.honest next → (b : History) → Stands g b now → stamps_between left last b ≡ [])
-    → g.honest next → (b : History) → Stands g b old → IsAsked (length (stamps_between from to b)) asked asked'
-asked_all g old now next from to left last asked asked' before looked looks none h b s =
-    let all : length (stamps_between from to b) ≡ before.told =
-    omega (arith, before.splits (looks.honest h) b s, ap length (none h b (looked.stands b s))) in
-    subst (λ n. IsAsked n asked asked') (sym all) before.times

@@ -153,12 +153,6 @@ shows_more (Installed i) b d s = record {
   installed = row_same i b d s.reserved s.installed;
 }
 
--- entries in turn on both, and where they fit they leave a sound history
-pub shows_all : (entries : List Entry) (b d : History) → ShowsSame b d
-    → ShowsSame (with_all entries b) (with_all entries d)
-shows_all [] b d s = s
-shows_all (entry ∷ entries) b d s = shows_all entries (entry ∷ b) (entry ∷ d) (shows_more entry b d s)
-
 pub sound_all : (entries : List Entry) (b : History) → IsSound b → FitInTurn entries b → IsSound (with_all entries b)
 sound_all [] b sound fit = sound
 sound_all (entry ∷ entries) b sound fit = sound_all entries (entry ∷ b) (fit.0, sound) fit.1

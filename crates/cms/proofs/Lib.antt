@@ -4,7 +4,6 @@ pub mod Digits
 pub mod FramePieces
 pub mod Identifiers
 pub mod Members
-pub mod Names
 pub mod Outlines
 pub mod Places
 pub mod Sending

@@ -1,10 +1,9 @@
 -- Tests over lists, and what they tell of the values that the elements stand for.
-use Rattle.std.proofs.Common.{◌≡◌, ℕ, zero, suc, ◌<◌, Bool, true, false, Some, is_some, List, [], ◌∷◌, map, length}
-use Rattle.std.proofs.Common.{option_map, refl, sym, ap, ◌∙◌, subst, inl, inr, ◌⊎◌, arith}
-use Rattle.std.specs.Prelude.{Contains, ◌↔◌, IsTrue}
-use Rattle.std.proofs.lemmas.List.{length-map, get_or-map}
-use Rattle.std.specs.Bool.{Decides, MatchBool}
-use Rattle.std.specs.List.{list_any, list_all, find, AllByRecursion, HoldsAt, AllWithin}
+use Rattle.std.proofs.Common.{◌≡◌, zero, suc, Bool, true, false, Some, is_some, List, [], ◌∷◌, map}
+use Rattle.std.proofs.Common.{refl, sym, ap, subst, inl, inr, ◌⊎◌, arith}
+use Rattle.std.specs.Prelude.{Contains}
+use Rattle.std.specs.Bool.{Decides}
+use Rattle.std.specs.List.{list_any, list_all, find}
 use Rattle.std.proofs.lemmas.Bool.Decides.{Decides-like, Decides-or, Decides-and}
 
 pub contains_here : {A : Type 0} (x : A) (xs : List A) → Contains (x ∷ xs) x
@@ -67,14 +66,6 @@ decides_all view test P each (x ∷ xs) =
     (λ w. (w (view x) (contains_here (view x) (map view xs)), λ y h. w y (contains_there (view x) y (map view xs) h)))
     both
 
--- the same, by recursion on the list
-pub decides_each : {A B : Type 0} (view : A → B) (test : A → Bool) (P : B → Type 0)
-    → ((x : A) → Decides (test x) (P (view x)))
-    → (xs : List A) → Decides (list_all test xs) (AllByRecursion P (map view xs))
-decides_each view test P each [] = (λ h. tt, λ w. refl)
-decides_each view test P each (x ∷ xs) =
-    Decides-and (test x) (list_all test xs) (each x) (decides_each view test P each xs)
-
 found_at : {A : Type 0} (test : A → Bool) (x : A) (xs : List A) (b : Bool) → test x ≡ b
     → is_some (find test xs) ≡ list_any test xs
     → is_some (find test (x ∷ xs)) ≡ list_any test (x ∷ xs)
@@ -95,15 +86,3 @@ found_passes_at test y ys x false e ih h = ih (rw e at h)
 pub found_passes : {A : Type 0} (test : A → Bool) (xs : List A) (x : A) → find test xs ≡ Some x → test x ≡ true
 found_passes test [] x h = cc h
 found_passes test (y ∷ ys) x h = found_passes_at test y ys x (test y) refl (found_passes test ys x) h
-
-find_map_at : {A B : Type 0} (view : A → B) (test : B → Bool) (x : A) (xs : List A) (b : Bool) → test (view x) ≡ b
-    → find test (map view xs) ≡ option_map view (find (λ x. test (view x)) xs)
-    → find test (map view (x ∷ xs)) ≡ option_map view (find (λ x. test (view x)) (x ∷ xs))
-find_map_at view test x xs true e h = rw e refl
-find_map_at view test x xs false e h = rw e h
-
--- a search by the values' own test is the search among the values
-pub find_map : {A B : Type 0} (view : A → B) (test : B → Bool) (xs : List A)
-    → find test (map view xs) ≡ option_map view (find (λ x. test (view x)) xs)
-find_map view test [] = refl
-find_map view test (x ∷ xs) = find_map_at view test x xs (test (view x)) refl (find_map view test xs)

@@ -7,7 +7,7 @@ use Rattle.std.proofs.lemmas.List.{drop_more, drop_all}
 use Rattle.der.specs.Node.{AreOctets}
 use Rattle.der.specs.ObjectIdentifier.{IsOidContent, ReadsAsOid, subidentifiers_after, subidentifiers_of, oid_of}
 use Rattle.der.proofs.DigitsElements.{all-from_places}
-use Rattle.der.proofs.OidContents.{fits, fits-last, fits-more, fits-large, fits-padded, subidentifiers_after-last}
+use Rattle.der.proofs.OidContents.{fits, fits-more, fits-large, fits-padded}
 use Rattle.der.proofs.OidContents.{subidentifiers_after-more, ReadsAsOid-from_fits, fits-from_ReadsAsOid}
 use Rattle.der.proofs.OidContents.{oid_of-contents, oid_of-others, ReadsAsOid-written}
 
@@ -20,18 +20,6 @@ pub record IsReadSoFar (os : List ℕ) (i n count : ℕ) : Type 0 where
 pub read_none : (os : List ℕ) → IsReadSoFar os 0 0 0
 unfolding subidentifiers_of
 read_none os = record { same = refl; counted = omega arith; few = omega arith }
-
-pub read_last : (os : List ℕ) (i n count octet : ℕ) → i < length os → octet ≡ get_or os i 0 → IsReadSoFar os i n count
-    → n < 2 ^ 121 → octet < 128 → IsReadSoFar os (i + 1) 0 (count + 1)
-read_last os i n count octet within at so_far small low =
-    let here : drop i os ≡ octet ∷ drop (i + 1) os = drop_more os i 0 within ∙ ap (λ o. o ∷ drop (i + 1) os) (sym at) in
-    let read : subidentifiers_after n (drop i os) ≡ (n * 128 + octet) ∷ subidentifiers_after 0 (drop (i + 1) os) =
-    ap (subidentifiers_after n) here ∙ subidentifiers_after-last n octet (drop (i + 1) os) low in
-    record {
-      same = sym (ap (fits n) here ∙ fits-last n octet (drop (i + 1) os) small low) ∙ so_far.same;
-      counted = omega (arith, so_far.counted, ap length read);
-      few = omega (arith, so_far.few);
-    }
 
 pub read_more : (os : List ℕ) (i n count octet : ℕ) → i < length os → octet ≡ get_or os i 0 → IsReadSoFar os i n count
     → n < 2 ^ 121 → 128 ≤ octet → 0 < n * 128 + (octet - 128) → IsReadSoFar os (i + 1) (n * 128 + (octet - 128)) count

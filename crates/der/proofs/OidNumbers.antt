@@ -248,14 +248,6 @@ begun_or_first i n h =
     ⊎_elim (λ some. and_right (ltb 0 i) (eqb n 0) (ne_eqb n 0 (h some)))
     (λ none. and_left (ltb 0 i) (eqb n 0) (le-ltb 0 i none)) (cases_lt 0 i)
 
-pub number_digit : (text : List ℕ) (i n c : ℕ) → i < length text → c ≡ get_or text i 0 → IsNumberSoFar text i n → 48 ≤ c
-    → c ≤ 57 → (0 < i → n ≡ 0 → ⊥) → n * 10 + (c - 48) < 2 ^ 128 → IsNumberSoFar text (i + 1) (n * 10 + (c - 48))
-number_digit text i n c within at h low high lead small = record {
-  same = ap (λ b. number_from b (n * 10 + (c - 48)) (drop (i + 1) text)) (lt-ltb 0 (i + 1) (omega arith)) ∙
-      (sym (number_from-digit (ltb 0 i) n c (drop (i + 1) text) low high (begun_or_first i n lead) small)
-      ∙ here text i n c within at h);
-}
-
 pub number_large : (text : List ℕ) (i n c : ℕ) → i < length text → c ≡ get_or text i 0 → IsNumberSoFar text i n → 48 ≤ c
     → c ≤ 57 → (0 < i → n ≡ 0 → ⊥) → 2 ^ 128 ≤ n * 10 + (c - 48) → number_from false 0 text ≡ None
 number_large text i n c within at h low high lead large =

@@ -4,7 +4,7 @@ use Rattle.std.proofs.Common.{refl, sym, ap, subst, ◌∙◌, arith, append_ass
 use Rattle.std.proofs.Common.{Result, Ok, Err, OnOk}
 use Rattle.std.specs.Result.{is_ok}
 use Rattle.std.specs.List.{flat_map}
-use Rattle.std.proofs.lemmas.List.{append-nil, drop_more, drop_all, flat_map_more, nil_from_length, length_push}
+use Rattle.std.proofs.lemmas.List.{append-nil, drop_more, drop_all, flat_map_more, length_push}
 use Rattle.der.specs.ObjectIdentifier.{ReadsAsOid, subidentifier_octets, oid_content, subidentifiers_after}
 use Rattle.der.specs.ObjectIdentifier.{subidentifiers_of, decimal, dotted, first_arc, oid_text, AreOthers}
 use Rattle.der.specs.ObjectIdentifier.{IsDottedNumberAt}
@@ -26,22 +26,6 @@ pub record IsPushed {E : Type 0} (pushed : Result (Unit {0}) E) (text old conten
   pub small : AreSmall read
   pub only : (others : List ℕ) → AreOthers others → text ≡ flat_map dotted others → (later : List ℕ)
       × (others ≡ read ++ later) × (rest ≡ flat_map dotted later)
-
-pushed_first : {E : Type 0} (pushed : Result (Unit {0}) E) (empty content old : List ℕ) → empty ≡ []
-    → OnOk pushed (content ≡ empty ++ old) → OnOk pushed (content ≡ old ++ [])
-pushed_first (Ok _) empty content old none e = e ∙ (ap (λ k. k ++ old) none ∙ sym (append-nil old))
-pushed_first (Err _) empty content old none e = tt
-
-pub pushed_none : {E : Type 0} (pushed : Result (Unit {0}) E) (text empty content old : List ℕ) → empty ≡ []
-    → OnOk pushed (content ≡ empty ++ old) → IsPushed pushed text old content text 31
-pushed_none pushed text empty content old none e = record {
-  read = [];
-  content_is = pushed_first pushed empty content old none e;
-  text_is = refl;
-  count = omega arith;
-  small = tt;
-  only = λ others are e. (others, refl, e);
-}
 
 small_later : (read : List ℕ) (later : List ℕ) → AreSmall (read ++ later) → AreSmall later
 small_later [] later h = h
@@ -107,36 +91,6 @@ pub pushed_no_number : {E : Type 0} (pushed : Result (Unit {0}) E) (text old con
 pushed_no_number pushed text old content rest left h some none others are e =
     let later = h.only others are e in
     none_later others h.read later.0 rest (small_in others h.read later.0 are later.1) later.2 some none
-
--- characters stand there, and 31 are read
-some_later : (later rest : List ℕ) → rest ≡ flat_map dotted later → 0 < length rest → 0 < length later
-some_later [] rest at some = omega (arith, ap length at)
-some_later (s ∷ later) rest at some = omega arith
-
-pub pushed_too_many : {E : Type 0} (pushed : Result (Unit {0}) E) (text old content rest : List ℕ) (left : ℕ)
-    → IsPushed pushed text old content rest left
-    → 0 < length rest → left ≡ 0 → (others : List ℕ) → AreOthers others → text ≡ flat_map dotted others → ⊥
-pushed_too_many pushed text old content rest left h some none others are e =
-    let later = h.only others are e in
-    omega (
-      arith,
-      h.count,
-      are.few,
-      ap length later.1,
-      length-append h.read later.0,
-      some_later later.0 rest later.2 some,
-    )
-
--- all is read
-pub pushed_all : {E : Type 0} (pushed : Result (Unit {0}) E) (text old content rest : List ℕ) (left : ℕ)
-    → IsPushed pushed text old content rest left → length rest ≡ 0 → (others : List ℕ) × AreOthers others
-    × (text ≡ flat_map dotted others) × OnOk pushed (content ≡ old ++ oid_content others)
-pushed_all pushed text old content rest left h none = (
-  h.read,
-  record { few = omega (arith, h.count); small = h.small },
-  h.text_is ∙ (ap (λ k. flat_map dotted h.read ++ k) (nil_from_length rest none) ∙ append-nil (flat_map dotted h.read)),
-  h.content_is,
-)
 
 -- ---- writing
 

@@ -101,10 +101,6 @@ next_found octets whole tag content rest held front is only =
 
 -- ---- the first of values under a tag
 
-pub take_none : (tag : ℕ) (ns : Nodes) → first_of ns ≡ None → take_under tag ns ≡ (None, ns)
-take_none tag no_nodes e = refl
-take_none tag (node first others) e = absurd cc
-
 pub take_same : (tag : ℕ) (ns : Nodes) (n : Node) (others : Nodes) → first_of ns ≡ Some (n, others)
     → identifier_of n ≡ tag → take_under tag ns ≡ (Some n, others)
 take_same tag no_nodes n others e is = absurd cc
@@ -115,16 +111,6 @@ take_same tag (node first later) n others e is =
     let test : (identifier_of first == tag) ≡ true =
     eq-eqb (identifier_of first) tag (ap identifier_of same_first ∙ is) in
     rw test (ap₂ (λ x y. (Some x, y)) same_first same_others)
-
-pub take_other : (tag : ℕ) (ns : Nodes) (n : Node) (others : Nodes) → first_of ns ≡ Some (n, others)
-    → (identifier_of n ≡ tag → ⊥) → take_under tag ns ≡ (None, ns)
-take_other tag no_nodes n others e not = refl
-take_other tag (node first later) n others e not =
-    let same : ◌≡◌ {A = Node × Nodes} (first, later) (n, others) = cc in
-    let same_first : first ≡ n = ap (λ pair. pair.0) same in
-    let test : (identifier_of first == tag) ≡ false =
-    ne_eqb (identifier_of first) tag (λ is. not (sym (ap identifier_of same_first) ∙ is)) in
-    rw test refl
 
 -- ---- no value is left
 

@@ -201,10 +201,6 @@ sealed_more (y ∷ zs) z =
     ap (λ (vs : List SealValue). seals (completed Fine y).adds ++ vs) (sealed_more zs z)
     ∙ sym (append_assoc (seals (completed Fine y).adds) (seals_of Fine zs) (seals (completed Fine z).adds))
 
-pub written_nothing : AreWritten [] [] [] []
-written_nothing =
-    record { completions = []; pendings = refl; signed = refl; grows = tt; seals_are = refl; says = refl }
-
 pub written_next : {W C : Type 0} (f : W → PendingValue) (h : C → Result (List ℕ) SignerFault) (ws : List W)
     (cs : List C) (i : ℕ) (w : W) (a : C) (vs now : List SealValue) (answers told : List Answer)
     → i < length ws → i < length cs → w ≡ slice_index_or ws i w → a ≡ slice_index_or cs i a
@@ -225,19 +221,3 @@ written_next f h ws cs i w a vs now answers told within within_too is is_too all
       says = more.says ∙ (ap (λ xs. xs ++ ((completed Fine z).says ∷ [])) all.says
           ∙ sym (map-append (λ y. (completed Fine y).says) zs (z ∷ [])));
     }
-
--- one more is pushed that shows what one more of a list does
-pub pushed_next : {E S V : Type 0} (view : E → V) (f : S → V) (xs : List S) (i : ℕ) (x : S) (before now : List E)
-    (e : E) → i < length xs → x ≡ slice_index_or xs i x → now ≡ before ++ (e ∷ []) → view e ≡ f x
-    → map view before ≡ map f (take i xs) → map view now ≡ map f (take (i + 1) xs)
-pushed_next view f xs i x before now e within is all same until =
-    ap (map view) all
-    ∙ (map-append view before (e ∷ [])
-    ∙ (ap (λ ys. ys ++ (view e ∷ [])) until
-    ∙ (ap (λ y. map f (take i xs) ++ (y ∷ [])) same ∙ sym (mapped_more f xs i x within is))))
-
-pub entries_of_seals : (seals : List Seal)
-    → map (λ s. Sealed s.serial s.token.items) seals ≡ map seal_entry (map seal_view seals)
-entries_of_seals [] = refl
-entries_of_seals (s ∷ seals) =
-    ap (λ (entries : List Entry). Sealed s.serial s.token.items ∷ entries) (entries_of_seals seals)

@@ -37,18 +37,6 @@ use Rattle.desk.proofs.Stamps.{tells_opened, tells_blamed, met_all}
 pub waiting_fits : (p : PendingValue) (b : History) → IsWaiting p b → FitsSealed p.serial b
 waiting_fits p b w = record { reservation = w.reservation; reserved = w.reserved; open_yet = w.open_yet }
 
--- no memory for the token
-pub unwrapped : {B : Type 0} (g : Ghosts B) (k : Keeping) (p : PendingValue) (signature : List ℕ) (v : B)
-    → Ends g k p (Ok signature) (refused refusal.OutOfReplyMemory) v v (Err OfMemory)
-unwrapped g k p signature v = record {
-  says = refl;
-  grows = tt;
-  counted = refl;
-  opened = λ honest. tt;
-  met = (tt, tt);
-  steps = λ honest b stands fits. record { stands = stands; left = λ left r. inl (refl, r) };
-}
-
 -- the signer gives no signature
 unsigned_met : (f : SignerFault) → WasMet (Err f) (all_fine (Ok [])) (signer_cause f)
 unsigned_met signer.Failed = refl

@@ -43,9 +43,6 @@ pub reserved_below : (n : ℕ) (b : History) (r : ReservationValue) → reservat
     → n ≤ greatest_serial b
 reserved_below n b r e = (found n (reservations b) r e).below
 
-pub reserved_number : (n : ℕ) (b : History) (r : ReservationValue) → reservation_at n b ≡ Some r → r.serial ≡ n
-reserved_number n b r e = (found n (reservations b) r e).serial
-
 -- what is sealed was reserved
 sealed_here : (m n : ℕ) (b : History) (x t : List ℕ) (same : Bool) → (m == n) ≡ same → FitsSealed m b
     → (token_of n b ≡ Some t → n ≤ greatest_serial b) → cond same (Some x) (token_of n b) ≡ Some t

@@ -12,19 +12,6 @@ use Rattle.sessions.specs.ReconnectingSigner.{AwaitsRenewed, asks, refused, aban
 use Rattle.sessions.specs.ReconnectingSigner.{still, taken, sent, gone}
 use Rattle.sessions.specs.RenewedLaws.{all_signed}
 
--- a call depends on what session was open before it, and which is after it
-pub signs_alike : {S O : Type 0} (signs : S → List ℕ → Result (List ℕ) SignerFault → S → Type 0) (fresh : S → Type 0)
-    (m x y z : ReconnectingState S O) (text : List ℕ) (answer : Result (List ℕ) SignerFault) → m.session ≡ x.session
-    → m.ahead ≡ x.ahead → z.session ≡ y.session → SignsRenewed signs fresh x text answer y
-    → SignsRenewed signs fresh m text answer z
-signs_alike signs fresh m x y z text answer same many left (asks session is step) =
-    asks session (subst (λ s. IsTaken fresh s session) (sym same) is)
-    (subst (λ s. AsksSession signs session text answer s) (sym left) step)
-signs_alike signs fresh m x y z text answer same many left (refused none leaves failed) =
-    refused (same ∙ none) (left ∙ leaves) failed
-signs_alike signs fresh m x y z text answer same many left (abandoned some leaves failed) =
-    abandoned (subst (λ n. 0 < n) (sym many) some) (left ∙ leaves) failed
-
 -- a session that was taken and put back is asked as if it had just been taken
 pub asked_once : {S O : Type 0} (signs : S → List ℕ → Result (List ℕ) SignerFault → S → Type 0) (fresh : S → Type 0)
     (before between : ReconnectingState S O) (session : S) (text : List ℕ) (answer : Result (List ℕ) SignerFault)

@@ -51,17 +51,6 @@ asked_more g old now new number viewer name names reads before looks faults fals
       before.others (looks.honest h) b s ∙ rw this refl;
 }
 
--- one that reads it is found
-pub asked_found : {S : Type 0} (g : Ghosts S) (old now new : BaseValue S) (number : ℕ) (viewer : Viewer)
-    (name : List ℕ) (names : List (List ℕ)) (reads : Bool)
-    → HasAsked g old now number viewer (name ∷ names)
-    → OnlyLooks (over_tables g) now new → reads ≡ true
-    → (IsHonest g new → (b : History) → Stands (over_tables g) b now → reads ≡ is_reader number (Group name) b)
-    → IsHonest g new → (b : History) → Stands (over_tables g) b old → true ≡ may_read viewer number b
-asked_found g old now new number viewer name names reads before looks true_is value h b s =
-    let this : is_reader number (Group name) b ≡ true = sym (value h b (before.looks.stands b s)) ∙ true_is in
-    sym (before.others (looks.honest h) b s ∙ rw this refl)
-
 -- the account itself reads it
 pub found_alone : (number : ℕ) (viewer : Viewer) (reads : Bool) (b : History) → reads ≡ true
     → reads ≡ is_reader number (Account viewer.name) b → true ≡ may_read viewer number b

@@ -47,9 +47,6 @@ le_true a b l = elim (leb_tells a b) [ inl t ↦ t.0 | inr f ↦ absurd (omega (
 le_false : (a b : ℕ) → b < a → nat_le a b ≡ false
 le_false a b l = elim (leb_tells a b) [ inl t ↦ absurd (omega (arith, l, t.1)) | inr f ↦ f.0 ]
 
-pub within_true : (from to : ℕ) (s : StampRow) → from ≤ s.serial → s.serial ≤ to → is_within from to s ≡ true
-within_true from to s least most = rw (le_true from s.serial least, le_true s.serial to most) refl
-
 before_false : (from to : ℕ) (s : StampRow) → s.serial < from → is_within from to s ≡ false
 before_false from to s before = rw (le_false from s.serial before) refl
 

@@ -11,14 +11,6 @@ use Rattle.book.specs.History.{stamp_of, stamps}
 use Rattle.book.specs.Sound.{FitsReserved, FitsSealed, IsSound}
 use Rattle.store.specs.Replay.{replayed}
 
-pub eqb_comm : (a b : ℕ) → (a == b) ≡ (b == a)
-eqb_comm a b =
-    elim (eqb_tells a b) [
-      | inl t ↦ t.0 ∙ sym (eq-eqb b a (sym t.1))
-      | inr f ↦ f.0
-          ∙ sym (ne_eqb b a (λ e. f.1 (sym e)))
-    ]
-
 -- a number above all isn't reserved
 pub absent_above : (rs : List ReservationValue) (n : ℕ) → greatest_of rs < n → find (λ r. r.serial == n) rs ≡ None
 absent_above [] n l = refl
@@ -27,17 +19,6 @@ absent_above (r ∷ rs) n l =
     let right : greatest_of rs ≤ max r.serial (greatest_of rs) = le-max_right _ _ in
     let differs : (r.serial == n) ≡ false = ne_eqb _ _ (λ e. absurd (omega (arith, left, l, e))) in
     rw differs (absent_above rs n (omega (arith, right, l)))
-
--- the one that a search of the serial number finds has it
-pub found_serial : (rs : List ReservationValue) (n : ℕ) (r : ReservationValue) → find (λ r. r.serial == n) rs ≡ Some r
-    → r.serial ≡ n
-found_serial [] n r e = cc
-found_serial (x ∷ rs) n r e =
-    elim (eqb_tells x.serial n) [
-      | inl t ↦ (let here : Some x ≡ Some r = sym (rw t.0 refl) ∙ e in let same : x ≡ r = cc in
-          ap (λ (v : ReservationValue). v.serial) (sym same) ∙ t.1)
-      | inr f ↦ found_serial rs n r (sym (rw f.0 refl) ∙ e)
-    ]
 
 absent_before : (r : ReservationValue) (rs : List ReservationValue) (n : ℕ) → find (λ r. r.serial == n) (r ∷ rs) ≡ None
     → find (λ r. r.serial == n) rs ≡ None

@@ -123,11 +123,6 @@ pub record MigratesFound {D : Type 0} (g : Ghosts D) (held : Image) : Type 0 whe
   pub done : Result (Files D) StoreFault
   pub migrated : IsMigrated was done
 
--- a store was opened so, and this came of it
-abbrev pub OpensThen : {D : Type 0} (g : Ghosts D) → Image → (BaseValue (FileStore D g) → Type 0) → Type 0
-OpensThen {D} g held Then =
-    (store : BaseValue (FileStore D g)) × (HasCleanDisk (file_state store.conn) → OpensFound held store) × Then store
-
 -- the tables of a connection aren't the counter's, nor those of any history
 pub record SeemsForeign {S : Type 0} (g : store.Ghosts S) (was : Held S) : Type 0 where
   -- the connection once they were looked for

@@ -4,7 +4,7 @@ use Rattle.sqlite_trees.specs.declared.store.Store.{Ghosts}
 use Rattle.sqlite.specs.Effect.{IsDatabase}
 use Rattle.sqlite.specs.Held.{state}
 use Rattle.tables.specs.QueryAnswers.{Looks}
-use Rattle.tables.specs.Base.{BaseValue, IsHonest, IsOpen, Keeps}
+use Rattle.tables.specs.Base.{BaseValue}
 use Rattle.tables.specs.Changes.{IsCounted}
 use Rattle.tables.specs.Layout.{IsDatabaseOf}
 use Rattle.tables.specs.Queries.{OnlyReads, LooksUp}
@@ -30,13 +30,6 @@ reads_only g old new closed looks = record {
   leaves = looks.leaves;
   usable = looks.usable;
 }
-
--- the database that it reads is that of the tables
-pub database_of : {S : Type 0} (g : Ghosts S) (view old : BaseValue S) → view ≡ old → (t : Tables) → Keeps g t old
-    → IsHonest g view → IsOpen g view → IsDatabaseOf t (state g view.conn).now
-database_of g view old same t keeps honest is_open =
-    let s : Keeps g t view = subst (Keeps g t) (sym same) keeps in
-    (s honest is_open).database
 
 module _ {S : Type 0} (g : Ghosts S) where
   pub reads_then : (old mid new : BaseValue S) → OnlyReads g old mid → OnlyReads g mid new → OnlyReads g old new

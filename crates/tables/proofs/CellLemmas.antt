@@ -1,6 +1,6 @@
 -- Rows that are equal cell by cell.
 use Rattle.std.proofs.Common.{◌≡◌, ℕ, ℤ, List, ◌∷◌, ap, ap₂}
-use Rattle.sqlite_value.specs.declared.value.Value.TheVariants.{Int, Text, Blob}
+use Rattle.sqlite_value.specs.declared.value.Value.TheVariants.{Int, Text}
 use Rattle.sqlite_value.specs.declared.value.Value.{Value}
 use Rattle.sqlite_value.specs.Order.{Row}
 use Rattle.sqlite.specs.Values.{bound_value}
@@ -10,9 +10,6 @@ int_more p q = ap₂ (λ z r. Int z ∷ r) p q
 
 pub text_more : {s t : List ℕ} {a b : Row} → s ≡ t → a ≡ b → Text s ∷ a ≡ Text t ∷ b
 text_more p q = ap₂ (λ z r. Text z ∷ r) p q
-
-pub blob_more : {s t : List ℕ} {a b : Row} → s ≡ t → a ≡ b → Blob s ∷ a ≡ Blob t ∷ b
-blob_more p q = ap₂ (λ z r. Blob z ∷ r) p q
 
 -- a value that a conversion gave
 pub value_more : (v : Value) (z : ℤ) {a b : Row} → v ≡ Int z → a ≡ b → bound_value v ∷ a ≡ Int z ∷ b

@@ -74,10 +74,6 @@ pub filter_equal : {X : Type 0} (p q : X → Bool) → ((x : X) → p x ≡ q x)
 filter_equal p q same [] = refl
 filter_equal p q same (x ∷ xs) = rw (same x, filter_equal p q same xs)
 
-pub any_equal : {X : Type 0} (p q : X → Bool) → ((x : X) → p x ≡ q x) → (xs : List X) → list_any p xs ≡ list_any q xs
-any_equal p q same [] = refl
-any_equal p q same (x ∷ xs) = rw (same x, any_equal p q same xs)
-
 -- a test fails throughout where none passes
 pub none_any : {X : Type 0} (p : X → Bool) (xs : List X) → length (filter p xs) ≡ 0 → list_any p xs ≡ false
 none_any p [] none = refl

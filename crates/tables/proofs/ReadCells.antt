@@ -1,6 +1,6 @@
 -- What was read of a row, from what it shows.
 use Rattle.std.proofs.Common.{◌≡◌, ◌∙◌, ℕ, ℤ, pos, List, Option, Some, None, refl, sym, ap, ap₂}
-use Rattle.sqlite_value.specs.declared.value.Value.TheVariants.{Int, Text, Blob}
+use Rattle.sqlite_value.specs.declared.value.Value.TheVariants.{Int, Text}
 use Rattle.sqlite_value.specs.Order.{Row, column}
 use Rattle.tables.specs.Layout.{token_cell}
 use Rattle.tables.specs.Queries.{ShowsLast}
@@ -19,10 +19,6 @@ signed_of row shown at n m is e f = let same : Int n ≡ Int m = sym e ∙ ap (�
 pub text_of : (row shown : Row) (at : ℕ) (s t : List ℕ) → row ≡ shown → column row at ≡ Text s
     → column shown at ≡ Text t → s ≡ t
 text_of row shown at s t is e f = let same : Text s ≡ Text t = sym e ∙ ap (λ r. column r at) is ∙ f in cc
-
-pub blob_of : (row shown : Row) (at : ℕ) (s t : List ℕ) → row ≡ shown → column row at ≡ Blob s
-    → column shown at ≡ Blob t → s ≡ t
-blob_of row shown at s t is e f = let same : Blob s ≡ Blob t = sym e ∙ ap (λ r. column r at) is ∙ f in cc
 
 pub token_of : (row shown : Row) (at : ℕ) (s t : Option (List ℕ)) → row ≡ shown → column row at ≡ token_cell s
     → column shown at ≡ token_cell t → s ≡ t

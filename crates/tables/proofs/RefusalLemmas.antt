@@ -34,7 +34,7 @@ use Rattle.sqlite.specs.Does.{Does, OnRows, MakesTable, MakesSequence, Concludes
 use Rattle.sqlite.specs.Effect.{Database, edit_error, alter_error}
 use Rattle.sqlite.specs.Held.{Held, state}
 use Rattle.sqlite.specs.Listing.{understood}
-use Rattle.sqlite.specs.Rows.{Part, Then, Gives, Task, Written, Queried, Sourced, Edited, Updates, Inserts, stamped}
+use Rattle.sqlite.specs.Rows.{Part, Gives, Task, Written, Queried, Sourced, Edited, Updates, Inserts, stamped}
 use Rattle.sqlite.specs.State.{State, RunsAlone, IsStatement, ExecutesIn, IsNotRun}
 use Rattle.sqlite.specs.State.{shows_rows, mode_of, store_error}
 use Rattle.sqlite.proofs.Callers.{IsPlain, command_of, statement_of}
@@ -59,11 +59,6 @@ NeverTaken P = (stop : Option Error) → P (Err stop) → IsSpared stop
 
 same_err : {A E : Type 0} {a b : E} → ◌≡◌ {A = Result A E} (Err a) (Err b) → a ≡ b
 same_err e = cc
-
-then_never : {A B : Type 0} (First : Part A) (Next : A → Part B) → NeverTaken First → ((a : A) → NeverTaken (Next a))
-    → NeverTaken (Then First Next)
-then_never First Next f n stop (inl stopped) = subst IsSpared (sym (same_err stopped.2)) (f stopped.0 stopped.1)
-then_never First Next f n stop (inr on) = n on.0 stop on.2
 
 gives_never : {A : Type 0} (a : A) → NeverTaken (Gives a)
 gives_never a stop e = absurd (let apart = e in cc)
