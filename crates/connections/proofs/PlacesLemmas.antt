@@ -5,45 +5,60 @@ use Rattle.std.proofs.Common.{MatchOption, OnSome, refl, sym, ap, subst, inl, in
 use Rattle.std.proofs.KnownBytes.{Consumes-nil, Consumes-trans}
 use Rattle.std.proofs.Math.Seq.{get_or-append_seam, map-set_same, split_at}
 use Rattle.std.proofs.lemmas.List.{append-nil, append_assoc, length-append, length-map, length-take-le, map-append}
+use Rattle.std.proofs.lemmas.List.{take_all}
 use Rattle.std.proofs.lemmas.List.{get_or-map, get_or-set_same, length-set, map-set}
 use Rattle.std.proofs.lemmas.List.Elements.{length_all_zip}
 use Rattle.std.specs.List.{AllByRecursion}
+use Rattle.std.specs.Time.{instant_nanos}
 use Rattle.std.proofs.lemmas.Bool.{false≢true}
 use Rattle.std.specs.Io.KnownBytes.{Consumes, IsAtEnd}
 use Rattle.service.specs.Received.{Receives}
-use Rattle.connections.specs.Acceptor.{came, AreTold, IsRefused}
-use Rattle.connections.specs.Places.{Place, Intake, IsReadOn, AreReadOn, IsTakenOut, IsUnread, AreAdded, AreWaitedFor}
-use Rattle.connections.specs.Places.{AreRounds, DropsOne, GivesOne, GivesWay, FailsOne, IsFailure}
-use Rattle.connections.specs.Places.{IsUnfinished, IsWhole, IsWholeAt, most_places, most_rounds, refused, unfinished, unheard}
+use Rattle.connections.specs.Acceptor.{came, AreTold, IsFine, WasShort}
+use Rattle.connections.specs.Places.{Place, Intake, IsReadOn, AreReadOn, IsAt, IsLost, IsNew, IsTakenOut, AreAdded}
+use Rattle.connections.specs.Places.{AreAllUnfinished, AreRounds, AreWaitedFor, FailsOne, GivesOne, GivesWay, HandsOut}
+use Rattle.connections.specs.Places.{IsFailure, IsGivenUp, IsUnfinished, IsWhole, LosesOne, MayGiveWay, TakesOne}
+use Rattle.connections.specs.Places.{most_places, most_rounds, refused, lost, crowded, short, unheard}
 use Rattle.connections.specs.Waiting.{place_of, ComesOf}
+use Rattle.connections.specs.declared.acceptor.Accepted.{Accepted}
+use Rattle.connections.specs.declared.acceptor.Accepted.TheVariants.{One, Nothing, Short, Failed}
 use Rattle.connections.specs.declared.waiting.Waiting.{Waiting}
 
-all_then : {A : Type 0} (P : A → Type 0) (xs ys : List A) → AllByRecursion P xs → AllByRecursion P ys
+pub all_then : {A : Type 0} (P : A → Type 0) (xs ys : List A) → AllByRecursion P xs → AllByRecursion P ys
     → AllByRecursion P (xs ++ ys)
 all_then P [] ys all more = more
 all_then P (x ∷ xs) ys all more = (all.0, all_then P xs ys all.1 more)
 
 -- what was told, one after the other
-came_then : {S : Type 0} (told more : List (Option S)) → came (told ++ more) ≡ came told ++ came more
+came_then : {S : Type 0} (told more : List (Accepted S)) → came (told ++ more) ≡ came told ++ came more
 came_then [] more = refl
-came_then (Some stream ∷ told) more = ap (λ all. stream ∷ all) (came_then told more)
-came_then (None ∷ told) more = came_then told more
+came_then (One stream ∷ told) more = ap (λ all. stream ∷ all) (came_then told more)
+came_then (Nothing ∷ told) more = came_then told more
+came_then (Short ∷ told) more = came_then told more
+came_then (Failed ∷ told) more = came_then told more
 
-told_then : {A S : Type 0} (tells : A → Option S → A → Type 0) (old mid new : A) (told more : List (Option S))
+short_then : {S : Type 0} (told more : List (Accepted S)) → WasShort more → WasShort (told ++ more)
+short_then [] more was = was
+short_then (One stream ∷ told) more was = short_then told more was
+short_then (Nothing ∷ told) more was = short_then told more was
+short_then (Short ∷ told) more was = tt
+short_then (Failed ∷ told) more was = short_then told more was
+
+pub told_then : {A S : Type 0} (tells : A → Accepted S → A → Type 0) (old mid new : A) (told more : List (Accepted S))
     → AreTold tells old told mid → AreTold tells mid more new → AreTold tells old (told ++ more) new
 told_then tells old mid new [] more same rest = subst (λ a. AreTold tells a more new) same rest
 told_then tells old mid new (one ∷ told) more first rest =
     (first.0, (first.1.0, told_then tells first.0 mid new told more first.1.1 rest))
 
 -- those that get places
-module _ {A S : Type 0} (tells : A → Option S → A → Type 0) (most : ℕ) where
+module _ {A S : Type 0} (tells : A → Accepted S → A → Type 0) (shows : ℕ → Type 0) (most : ℕ) where
   abbrev Added : Intake A S → Intake A S → Type 0
-  Added = AreAdded tells most
+  Added = AreAdded tells shows most
 
   pub none_added : (old : Intake A S) → Added old old
   none_added old = record {
     told = [];
     asked = refl;
+    fine = tt;
     taken = [];
     unread = tt;
     are = refl;
@@ -76,8 +91,9 @@ module _ {A S : Type 0} (tells : A → Option S → A → Type 0) (most : ℕ) w
     told = added.told ++ more.told;
     asked = told_then tells old.acceptor first.acceptor second.acceptor added.told more.told added.asked
         (subst (λ a. AreTold tells a more.told second.acceptor) same more.asked);
+    fine = all_then IsFine added.told more.told added.fine more.fine;
     taken = added.taken ++ more.taken;
-    unread = all_then IsUnread added.taken more.taken added.unread more.unread;
+    unread = all_then (IsNew shows) added.taken more.taken added.unread more.unread;
     are = map-append (λ p. p.stream) added.taken more.taken
         ∙ (ap (λ xs. xs ++ map (λ p. p.stream) more.taken) added.are
         ∙ (ap (λ xs. came added.told ++ xs) more.are ∙ sym (came_then added.told more.told)));
@@ -91,11 +107,12 @@ module _ {A S : Type 0} (tells : A → Option S → A → Type 0) (most : ℕ) w
       (added_behind old mid mid new first refl refl second)
 
   -- none came
-  pub none_came : (old new : Intake A S) → tells old.acceptor None new.acceptor → new.places ≡ old.places
+  pub none_came : (old new : Intake A S) → tells old.acceptor Nothing new.acceptor → new.places ≡ old.places
       → Added old new
   none_came old new told same = record {
-    told = None ∷ [];
+    told = Nothing ∷ [];
     asked = (new.acceptor, (told, refl));
+    fine = (tt, tt);
     taken = [];
     unread = tt;
     are = refl;
@@ -103,13 +120,33 @@ module _ {A S : Type 0} (tells : A → Option S → A → Type 0) (most : ℕ) w
     few = inl refl;
   }
 
+  -- nothing was to spare for one
+  pub short_behind : (old mid new : Intake A S) → Added old mid → tells mid.acceptor Short new.acceptor
+      → new.places ≡ mid.places → (added : Added old new) × WasShort added.told
+  short_behind old mid new first told same = (
+    record {
+      told = first.told ++ (Short ∷ []);
+      asked = told_then tells old.acceptor mid.acceptor new.acceptor first.told (Short ∷ []) first.asked
+          (new.acceptor, (told, refl));
+      fine = all_then IsFine first.told (Short ∷ []) first.fine (tt, tt);
+      taken = first.taken;
+      unread = first.unread;
+      are = first.are ∙ sym (came_then first.told (Short ∷ []) ∙ append-nil (came first.told));
+      behind = same ∙ first.behind;
+      few = subst (λ all. (first.taken ≡ []) ⊎ ((length all ≤ most) × (length all ≤ most_places))) (sym same)
+          first.few;
+    },
+    short_then first.told (Short ∷ []) tt,
+  )
+
   -- one came
-  pub one_came : (old new : Intake A S) (one : Place S) → tells old.acceptor (Some one.stream) new.acceptor
-      → IsUnread one → new.places ≡ old.places ++ (one ∷ []) → length old.places < most
+  pub one_came : (old new : Intake A S) (one : Place S) → tells old.acceptor (One one.stream) new.acceptor
+      → IsNew shows one → new.places ≡ old.places ++ (one ∷ []) → length old.places < most
       → length old.places < most_places → Added old new
   one_came old new one told unread behind fewer few = record {
-    told = Some one.stream ∷ [];
+    told = One one.stream ∷ [];
     asked = (new.acceptor, (told, refl));
+    fine = (tt, tt);
     taken = one ∷ [];
     unread = (unread, tt);
     are = refl;
@@ -150,17 +187,27 @@ ends_then a b c bs cs first second was true is ended later fresh end =
 ends_then a b c bs cs first second was false is ended later fresh end =
     end_of_told a b c bs first (later refl end)
 
-module _ {S : Type 0} (remaining : S → Option (List ℕ)) where
-  pub still_read : (one : Place S) → IsReadOn remaining one one
+module _ {S : Type 0} (remaining : S → Option (List ℕ)) (fails : S → Type 0) where
+  pub still_read : (one : Place S) → IsReadOn remaining fails one one
   still_read one = record {
     got = [];
     octets = sym (append-nil one.received.octets);
     consumed = Consumes-nil (remaining one.stream);
     ended = λ fresh end. absurd (false≢true (sym fresh ∙ end));
+    taken = refl;
+    failed = λ fine failed. absurd (false≢true (sym fine ∙ failed));
+    kept = λ failed. refl;
   }
 
-  pub read_then : (old mid new : Place S) → IsReadOn remaining old mid → IsReadOn remaining mid new
-      → IsReadOn remaining old new
+  -- it failed by the first of two reads, or by the second
+  failed_then : (old mid new : Place S) (is : Bool) → mid.has_failed ≡ is → IsReadOn remaining fails old mid
+      → IsReadOn remaining fails mid new → old.has_failed ≡ false → new.has_failed ≡ true → fails new.stream
+  failed_then old mid new true is first second fine failed =
+      subst (λ p. fails p.stream) (sym (second.kept is)) (first.failed fine is)
+  failed_then old mid new false is first second fine failed = second.failed is failed
+
+  pub read_then : (old mid new : Place S) → IsReadOn remaining fails old mid → IsReadOn remaining fails mid new
+      → IsReadOn remaining fails old new
   read_then old mid new first second = record {
     got = first.got ++ second.got;
     octets = second.octets
@@ -170,10 +217,13 @@ module _ {S : Type 0} (remaining : S → Option (List ℕ)) where
     ended = ends_then (remaining old.stream) (remaining mid.stream) (remaining new.stream) first.got second.got
         first.consumed second.consumed old.received.is_ended mid.received.is_ended new.received.is_ended first.ended
         second.ended;
+    taken = second.taken ∙ first.taken;
+    failed = failed_then old mid new mid.has_failed refl first second;
+    kept = λ failed. second.kept (ap (λ p. p.has_failed) (first.kept failed) ∙ failed) ∙ first.kept failed;
   }
 
   abbrev Read : List (Place S) → List (Place S) → Type 0
-  Read = AreReadOn remaining
+  Read = AreReadOn remaining fails
 
   pub all_still : (all : List (Place S)) → Read all all
   all_still [] = tt
@@ -196,7 +246,7 @@ module _ {S : Type 0} (remaining : S → Option (List ℕ)) where
 
   -- one of them is read on
   read_at : (old mid : List (Place S)) (place : ℕ) (one other : Place S) → place < length mid → Read old mid
-      → IsReadOn remaining (get_or mid place other) one → Read old (set mid place one)
+      → IsReadOn remaining fails (get_or mid place other) one → Read old (set mid place one)
   read_at [] [] place one other within read next = absurd (omega (arith, within))
   read_at (x ∷ xs) (y ∷ ys) zero one other within read next = (read_then x y one read.0 next, read.1)
   read_at (x ∷ xs) (y ∷ ys) (suc i) one other within read next =
@@ -206,40 +256,40 @@ module _ {S : Type 0} (remaining : S → Option (List ℕ)) where
 
   pub read_one : {W : Type 0} (place_of : W → Place S) (old : List (Place S)) (mid : List W) (place : ℕ) (one other : W)
       → place < length mid → Read old (map place_of mid)
-      → IsReadOn remaining (place_of (get_or mid place other)) (place_of one)
+      → IsReadOn remaining fails (place_of (get_or mid place other)) (place_of one)
       → Read old (map place_of (set mid place one))
   read_one place_of old mid place one other within read next =
       subst (λ all. Read old all) (sym (map-set place_of mid place one))
       (read_at old (map place_of mid) place (place_of one) (place_of other)
       (omega (arith, within, length-map mid place_of)) read
-      (subst (λ p. IsReadOn remaining p (place_of one))
+      (subst (λ p. IsReadOn remaining fails p (place_of one))
       (sym (get_or-map place_of mid place other (place_of other) within)) next))
 
-module _ {A S : Type 0} (tells : A → Option S → A → Type 0) (fails : A → A → Type 0) (remaining : S → Option (List ℕ))
-    (most : ℕ) where
+module _ {A S : Type 0} (tells : A → Accepted S → A → Type 0) (shows : ℕ → Type 0)
+    (remaining : S → Option (List ℕ)) (fails : S → Type 0) (most : ℕ) where
   abbrev Waits : Intake A S → Intake A S → Type 0
-  Waits = AreWaitedFor tells remaining most
+  Waits = AreWaitedFor tells shows remaining fails most
 
   abbrev Fails : Intake A S → Intake A S → Type 0
-  Fails = FailsOne tells fails remaining most
+  Fails = FailsOne tells shows remaining fails most
 
-  pub waits_added : (old new : Intake A S) → AreAdded tells most old new → Waits old new
+  pub waits_added : (old new : Intake A S) → AreAdded tells shows most old new → Waits old new
   waits_added old new added = record {
     between = new;
     added = added;
-    read = all_still remaining new.places;
+    read = all_still remaining fails new.places;
     same = refl;
   }
 
   pub waits_none : (old : Intake A S) → Waits old old
-  waits_none old = waits_added old old (none_added tells most old)
+  waits_none old = waits_added old old (none_added tells shows most old)
 
-  pub waits_read : (old mid new : Intake A S) → Waits old mid → AreReadOn remaining mid.places new.places
+  pub waits_read : (old mid new : Intake A S) → Waits old mid → AreReadOn remaining fails mid.places new.places
       → new.acceptor ≡ mid.acceptor → Waits old new
   waits_read old mid new waits read same = record {
     between = waits.between;
     added = waits.added;
-    read = all_then_read remaining waits.between.places mid.places new.places waits.read read;
+    read = all_then_read remaining fails waits.between.places mid.places new.places waits.read read;
     same = same ∙ waits.same;
   }
 
@@ -247,59 +297,65 @@ module _ {A S : Type 0} (tells : A → Option S → A → Type 0) (fails : A →
       → new.places ≡ mid.places → Waits old new
   waits_same old mid new waits same places =
       waits_read old mid new waits
-      (subst (λ all. AreReadOn remaining mid.places all) (sym places) (all_still remaining mid.places)) same
+      (subst (λ all. AreReadOn remaining fails mid.places all) (sym places) (all_still remaining fails mid.places)) same
 
   pub waits_then : (old mid new : Intake A S) → Waits old mid → Waits mid new → Waits old new
   waits_then old mid new first second =
       let start = first.between in
       let more = second.added.taken in
-      let read : AreReadOn remaining (start.places ++ more) second.between.places =
-      subst (λ all. AreReadOn remaining (start.places ++ more) all) (sym second.added.behind)
-      (all_behind remaining start.places mid.places more first.read) in
+      let read : AreReadOn remaining fails (start.places ++ more) second.between.places =
+      subst (λ all. AreReadOn remaining fails (start.places ++ more) all) (sym second.added.behind)
+      (all_behind remaining fails start.places mid.places more first.read) in
       record {
         between = record { acceptor = second.between.acceptor; places = start.places ++ more };
-        added = added_behind tells most old start mid second.between first.added
-            (length_all_zip (IsReadOn remaining) start.places mid.places first.read) first.same second.added;
-        read = all_then_read remaining (start.places ++ more) second.between.places new.places read second.read;
+        added = added_behind tells shows most old start mid second.between first.added
+            (length_all_zip (IsReadOn remaining fails) start.places mid.places first.read) first.same second.added;
+        read = all_then_read remaining fails (start.places ++ more) second.between.places new.places read second.read;
         same = second.same;
       }
 
   abbrev Rounds : ℕ → Intake A S → Intake A S → Type 0
-  Rounds rounds = AreRounds tells remaining rounds most
+  Rounds rounds = AreRounds tells shows remaining fails rounds most
 
   pub rounds_none : (old : Intake A S) → Rounds 0 old old
   rounds_none old = (waits_none old, omega arith)
 
   told_all : (old mid new : Intake A S) (first : Waits old mid) (second : Waits mid new)
-      → length (waits_then old mid new first second).added.told
-      ≡ length first.added.told + length second.added.told
+      → (waits_then old mid new first second).added.told ≡ first.added.told ++ second.added.told
   unfolding waits_then added_behind
-  told_all old mid new first second = length-append first.added.told second.added.told
+  told_all old mid new first second = refl
 
   pub rounds_then : (n : ℕ) (old mid new : Intake A S) → Rounds n old mid → Rounds 1 mid new → Rounds (n + 1) old new
   rounds_then n old mid new first second = (
     waits_then old mid new first.0 second.0,
-    omega (arith, first.1, second.1, told_all old mid new first.0 second.0),
+    omega (
+      arith,
+      first.1,
+      second.1,
+      ap length (told_all old mid new first.0 second.0),
+      length-append first.0.added.told second.0.added.told,
+    ),
   )
 
-  pub round_told : (old mid new : Intake A S) → Waits old mid → tells mid.acceptor None new.acceptor
+  pub round_told : (old mid new : Intake A S) → Waits old mid → tells mid.acceptor Nothing new.acceptor
       → new.places ≡ mid.places → Rounds 1 old new
   unfolding waits_added none_came
   round_told old mid new waits told same =
-      let more : Waits mid new = waits_added mid new (none_came tells most mid new told same) in
-      let once : length more.added.told ≡ 1 = refl in
-      (waits_then old mid new waits more, omega (arith, once, told_all old mid new waits more))
+      let more : Waits mid new = waits_added mid new (none_came tells shows most mid new told same) in
+      let once : length more.added.told ≡ 1 = refl in (
+        waits_then old mid new waits more,
+        omega (
+          arith,
+          once,
+          ap length (told_all old mid new waits more),
+          length-append waits.added.told more.added.told,
+        ),
+      )
 
   -- one fails
-  pub fails_refused : (old last new : Intake A S) → Waits old last → IsRefused tells fails last.acceptor new.acceptor
+  pub fails_refused : (old last new : Intake A S) → Waits old last → tells last.acceptor Failed new.acceptor
       → new.places ≡ last.places → Fails old new
   fails_refused old last new waits is same = record { last = last; heard = waits; cause = refused is same }
-
-  pub fails_unfinished : (old last new : Intake A S) (rest : List (Place S)) → Waits old last
-      → DropsOne remaining last.places rest
-      → AreAdded tells most (record { acceptor = last.acceptor; places = rest }) new → Fails old new
-  fails_unfinished old last new rest waits drops added =
-      record { last = last; heard = waits; cause = unfinished rest drops added }
 
   pub fails_unheard : (n : ℕ) (old new : Intake A S) → Rounds n old new → most_rounds ≤ n → Fails old new
   fails_unheard n old new rounds all = record {
@@ -308,58 +364,81 @@ module _ {A S : Type 0} (tells : A → Option S → A → Type 0) (fails : A →
     cause = unheard (omega (arith, all, rounds.1)) refl;
   }
 
-  failure_later : (n k : ℕ) (old new : Intake A S) → n ≤ k → IsFailure tells fails remaining most n old new
-      → IsFailure tells fails remaining most k old new
-  failure_later n k old new more (refused is same) = refused is same
-  failure_later n k old new more (unfinished rest drops added) = unfinished rest drops added
-  failure_later n k old new more (unheard all same) = unheard (omega (arith, all, more)) same
+  failure_later : (told more : List (Accepted S)) (old new : Intake A S)
+      → IsFailure tells shows remaining fails most more old new
+      → IsFailure tells shows remaining fails most (told ++ more) old new
+  failure_later told more old new (refused is same) = refused is same
+  failure_later told more old new (lost now shown one loses same) = lost now shown one loses same
+  failure_later told more old new (crowded now shown full rest gives added some) =
+      crowded now shown full rest gives added some
+  failure_later told more old new (short now shown was gives same) =
+      short now shown (short_then told more was) gives same
+  failure_later told more old new (unheard all same) =
+      unheard (omega (arith, all, length-append told more)) same
 
   -- what comes behind
   pub comes_later : (old mid new : Intake A S) → Waits old mid → (done : Option (Waiting S))
-      → ComesOf tells fails remaining most mid done new → ComesOf tells fails remaining most old done new
+      → ComesOf tells shows remaining fails most mid done new
+      → ComesOf tells shows remaining fails most old done new
   comes_later old mid new waits None later = record {
     last = later.last;
     heard = waits_then old mid later.last waits later.heard;
-    cause = failure_later (length later.heard.added.told)
-        (length (waits_then old mid later.last waits later.heard).added.told) later.last new
-        (omega (arith, told_all old mid later.last waits later.heard)) later.cause;
+    cause = subst (λ told. IsFailure tells shows remaining fails most told later.last new)
+        (sym (told_all old mid later.last waits later.heard))
+        (failure_later waits.added.told later.heard.added.told later.last new later.cause);
   }
   comes_later old mid new waits (Some one) later = record {
     last = later.last;
     heard = waits_then old mid later.last waits later.heard;
+    one = later.one;
     given = later.given;
     same = later.same;
+    came = later.came;
+    through = later.through;
   }
 
   -- what comes of those that have places
-  pub comes_done : (old mid new : Intake A S) → Waits old mid → new.acceptor ≡ mid.acceptor
+  pub comes_done : (now : ℕ) → shows now → (old mid new : Intake A S) → Waits old mid → new.acceptor ≡ mid.acceptor
       → (done : Option (Waiting S))
-      → MatchOption done (DropsOne remaining mid.places new.places)
-      (λ one. GivesOne remaining mid.places one.request one.peer.stream new.places)
-      → ComesOf tells fails remaining most old done new
-  comes_done old mid new waits same None drops =
-      fails_unfinished old mid new new.places waits drops
-      (subst (λ a. AreAdded tells most (record { acceptor = a; places = new.places }) new) same
-      (none_added tells most new))
-  comes_done old mid new waits same (Some one) gives =
-      record { last = mid; heard = waits; given = gives; same = same }
+      → MatchOption done ((one : Place S) × LosesOne remaining fails now mid.places one new.places)
+      (λ one. GivesOne remaining fails mid.places (place_of one) new.places)
+      → ComesOf tells shows remaining fails most old done new
+  comes_done now shown old mid new waits same None loses =
+      record { last = mid; heard = waits; cause = lost now shown loses.0 loses.1 same }
+  comes_done now shown old mid new waits same (Some one) gives = record {
+    last = mid;
+    heard = waits;
+    one = place_of one;
+    given = gives;
+    same = same;
+    came = refl;
+    through = refl;
+  }
 
 -- one read
-pub one_read : {S E : Type 0} (remaining : S → Option (List ℕ)) (old new : Place S) (read : Result (Unit {0}) E)
+pub one_read : {S E : Type 0} (remaining : S → Option (List ℕ)) (fails : S → Type 0) (old new : Place S)
+    (read : Result (Unit {0}) E)
     → OnOk read (Receives (remaining old.stream) (remaining new.stream) old.received new.received)
-    → OnErr read (Consumes (remaining old.stream) (remaining new.stream) []) → OnErr read (new.received ≡ old.received)
-    → IsReadOn remaining old new
-one_read remaining old new (Ok done) receives failed kept = record {
+    → OnErr read (Consumes (remaining old.stream) (remaining new.stream) [])
+    → OnErr read (new.received ≡ old.received) → new.taken ≡ old.taken → old.has_failed ≡ false
+    → (new.has_failed ≡ true → fails new.stream) → IsReadOn remaining fails old new
+one_read remaining fails old new (Ok done) receives none_lost kept taken fine failed = record {
   got = receives.got;
   octets = receives.octets;
   consumed = receives.consumed;
   ended = λ fresh end. told_end (remaining old.stream) (remaining new.stream) (receives.ended fresh end);
+  taken = taken;
+  failed = λ was is. failed is;
+  kept = λ was. absurd (false≢true (sym fine ∙ was));
 }
-one_read remaining old new (Err fault) receives failed kept = record {
+one_read remaining fails old new (Err fault) receives none_lost kept taken fine failed = record {
   got = [];
   octets = ap (λ r. r.octets) kept ∙ sym (append-nil old.received.octets);
-  consumed = failed;
+  consumed = none_lost;
   ended = λ fresh end. absurd (false≢true (sym fresh ∙ (ap (λ r. r.is_ended) (sym kept) ∙ end)));
+  taken = taken;
+  failed = λ was is. failed is;
+  kept = λ was. absurd (false≢true (sym fine ∙ was));
 }
 
 -- one that is taken out of a list
@@ -380,86 +459,85 @@ taken_out place_of old new place one within is rest =
       stay = ap (map place_of) rest ∙ map-append place_of (take place old) (drop (place + 1) old);
     }
 
-module _ {S : Type 0} (place : ℕ) (one : Place S) (all new : List (Place S)) (out : IsTakenOut place one all new) where
-  taken_is : get_or all place one ≡ one
-  taken_is =
-      ap (λ xs. get_or xs place one) out.stood
-      ∙ (ap (λ n. get_or (out.before ++ (one ∷ out.behind)) n one) (sym out.there)
-      ∙ get_or-append_seam out.before one out.behind one)
+-- what holds of the one that has that place
+pub holds_of_taken : {S : Type 0} (Holds : Place S → Type 0) (place : ℕ) (one : Place S) (all new : List (Place S))
+    → IsTakenOut place one all new → IsAt place Holds all → Holds one
+holds_of_taken Holds place one all new out at =
+    let taken_is : get_or all place one ≡ one =
+    ap (λ xs. get_or xs place one) out.stood
+    ∙ (ap (λ n. get_or (out.before ++ (one ∷ out.behind)) n one) (sym out.there)
+    ∙ get_or-append_seam out.before one out.behind one) in
+    subst Holds taken_is (at.holds one)
 
-  pub whole_taken : IsWholeAt place true all → IsWhole one.received
-  whole_taken whole = subst (λ p. IsWhole p.received) taken_is (whole.whole refl one)
+-- what holds of one that a list has
+pub at_place : {W S : Type 0} (place_of : W → Place S) (Holds : Place S → Type 0) (all : List W) (place : ℕ) (one : W)
+    → place < length all → one ≡ get_or all place one → Holds (place_of one) → IsAt place Holds (map place_of all)
+at_place place_of Holds all place one within is holds = record {
+  within = omega (arith, within, length-map all place_of);
+  holds = λ other. subst Holds (sym (get_or-map place_of all place one other within))
+      (subst (λ w. Holds (place_of w)) is holds);
+}
 
-  pub unfinished_taken : IsWholeAt place false all → IsUnfinished one.received
-  unfinished_taken whole = subst (λ p. IsUnfinished p.received) taken_is (whole.unfinished refl one)
+-- those before this place aren't whole
+abbrev pub AreBefore : {S : Type 0} → ℕ → List (Place S) → Type 0
+AreBefore place all = AllByRecursion (λ one. IsUnfinished one.received) (take place all)
 
--- the one that was read last is whole, or isn't
-pub whole_at : {W S : Type 0} (place_of : W → Place S) (mid : List W) (place : ℕ) (one : W) (is_whole : Bool)
-    → place < length mid → (is_whole ≡ true → IsWhole (place_of one).received)
-    → (is_whole ≡ false → IsUnfinished (place_of one).received)
-    → IsWholeAt place is_whole (map place_of (set mid place one))
-whole_at {W} {S} place_of mid place one is_whole within whole cut =
-    let there : length (map place_of (set mid place one)) ≡ length mid =
-    ap length (map-set place_of mid place one) ∙ (length-set (map place_of mid) place (place_of one)
-    ∙ length-map mid place_of) in
-    let is : (other : Place S) → place_of one ≡ get_or (map place_of (set mid place one)) place other = λ other.
-    sym (ap (λ xs. get_or xs place other) (map-set place_of mid place one)
-    ∙ get_or-set_same (map place_of mid) place (place_of one) other (omega (arith, within, length-map mid place_of))) in
-    record {
-      within = omega (arith, within, there);
-      whole = λ told other. subst (λ p. IsWhole p.received) (is other) (whole told);
-      unfinished = λ told other. subst (λ p. IsUnfinished p.received) (is other) (cut told);
-    }
+pub none_before : {S : Type 0} (place : ℕ) (all : List (Place S)) → length all ≤ place → AreBefore place all
+    → AllByRecursion (λ one. IsUnfinished one.received) all
+none_before place all end before =
+    subst (AllByRecursion (λ one. IsUnfinished one.received)) (take_all place all end) before
+
+-- nor is the next, which is read
+next_before : {S : Type 0} (all : List (Waiting S)) (place : ℕ) (one : Waiting S) → place < length all
+    → IsUnfinished one.request → AreBefore place (map place_of all)
+    → AreBefore (suc place) (map place_of (set all place one))
+next_before [] place one within is before = absurd (omega (arith, within))
+next_before (x ∷ xs) zero one within is before = (is, tt)
+next_before (x ∷ xs) (suc i) one within is before =
+    (before.0, next_before xs i one (omega (arith, within)) is before.1)
+
+pub one_more_before : {S : Type 0} (all : List (Waiting S)) (place : ℕ) (one : Waiting S) → place < length all
+    → IsUnfinished one.request → AreBefore place (map place_of all)
+    → AreBefore (place + 1) (map place_of (set all place one))
+one_more_before all place one within is before =
+    let next : suc place ≡ place + 1 = omega arith in
+    subst (λ n. AreBefore n (map place_of (set all place one))) next (next_before all place one within is before)
 
 -- one of them is read once more
-pub read_once_more : {S : Type 0} (remaining : S → Option (List ℕ)) (old : List (Place S)) (mid : List (Waiting S))
-    (place : ℕ) (was one : Waiting S) → place < length mid → was ≡ get_or mid place was
-    → AreReadOn remaining old (map place_of mid) → IsReadOn remaining (place_of was) (place_of one)
-    → AreReadOn remaining old (map place_of (set mid place one))
-read_once_more remaining old mid place was one within is read next =
-    read_one remaining place_of old mid place one was within read
-    (subst (λ w. IsReadOn remaining (place_of w) (place_of one)) is next)
+pub read_once_more : {S : Type 0} (remaining : S → Option (List ℕ)) (fails : S → Type 0) (old : List (Place S))
+    (mid : List (Waiting S)) (place : ℕ) (was one : Waiting S) → place < length mid → was ≡ get_or mid place was
+    → AreReadOn remaining fails old (map place_of mid) → IsReadOn remaining fails (place_of was) (place_of one)
+    → AreReadOn remaining fails old (map place_of (set mid place one))
+read_once_more remaining fails old mid place was one within is read next =
+    read_one remaining fails place_of old mid place one was within read
+    (subst (λ w. IsReadOn remaining fails (place_of w) (place_of one)) is next)
 
 -- one of them is heard of
 pub heard_same : {S : Type 0} (items : List (Waiting S)) (i : ℕ) (one was : Waiting S)
     → one.request ≡ (get_or items i was).request → one.peer.stream ≡ (get_or items i was).peer.stream
+    → one.taken ≡ (get_or items i was).taken → one.has_failed ≡ (get_or items i was).has_failed
     → map place_of (set items i one) ≡ map place_of items
-heard_same items i one was received stream =
-    map-set_same place_of items i one was (λ j. record { received = received j; stream = stream j })
+heard_same items i one was received stream taken failed =
+    map-set_same place_of items i one was
+    (λ j. record { received = received j; stream = stream j; taken = instant_nanos (taken j); has_failed = failed j })
 
--- what comes of a place that is given up
-module _ {S : Type 0} (remaining : S → Option (List ℕ)) (old mid new : List (Place S)) (read : AreReadOn remaining old mid)
-    (place : ℕ) (one : Waiting S) (out : IsTakenOut place (place_of one) mid new) where
-  pub gives_whole : IsWholeAt place true mid → GivesOne remaining old one.request one.peer.stream new
-  gives_whole whole = record {
-    last = mid;
-    read = read;
-    place = place;
-    out = out;
-    whole = whole_taken place (place_of one) mid new out whole;
-  }
-
-  pub drops_unfinished : IsWholeAt place false mid → DropsOne remaining old new
-  drops_unfinished cut = record {
-    last = mid;
-    read = read;
-    place = place;
-    one = place_of one;
-    out = out;
-    unfinished = unfinished_taken place (place_of one) mid new out cut;
-  }
+-- one is taken out of its place of which this holds
+pub takes_one : {S : Type 0} (remaining : S → Option (List ℕ)) (fails : S → Type 0) (Holds : Place S → Type 0)
+    (old mid new : List (Place S)) → AreReadOn remaining fails old mid → (place : ℕ) (one : Place S)
+    → IsTakenOut place one mid new → IsAt place Holds mid → TakesOne remaining fails Holds old one new
+takes_one remaining fails Holds old mid new read place one out at = record {
+  last = mid;
+  read = read;
+  place = place;
+  out = out;
+  holds = holds_of_taken Holds place one mid new out at;
+}
 
 -- the first gives way
-pub drops_first : {S : Type 0} (remaining : S → Option (List ℕ)) (old new : List (Place S)) (one : Place S)
-    → IsWholeAt 0 false old → (way : GivesWay one old new) → DropsOne remaining old way.1
-drops_first remaining old new one cut way = record {
-  last = old;
-  read = all_still remaining old;
-  place = 0;
-  one = way.0;
-  out = way.2;
-  unfinished = unfinished_taken 0 way.0 old way.1 way.2 cut;
-}
+pub given_up : {S : Type 0} (now : ℕ) (old new : List (Place S)) (first : Place S) → IsTakenOut 0 first old new
+    → IsAt 0 (MayGiveWay now) old → IsGivenUp now old new
+given_up now old new first out at =
+    record { first = first; out = out; may = holds_of_taken (MayGiveWay now) 0 first old new out at }
 
 pub gives_way : {W S : Type 0} (place_of : W → Place S) (items : List W) (one : W) → 0 < length items
     → GivesWay (place_of one) (map place_of items)
@@ -473,11 +551,11 @@ gives_way place_of (first ∷ items) one within = (
 )
 
 -- the acceptor gave the one that gets the first's place
-pub given_way : {A S : Type 0} (tells : A → Option S → A → Type 0) (most : ℕ) (old new : Intake A S) (one : Place S)
-    → (way : GivesWay one old.places new.places) → tells old.acceptor (Some one.stream) new.acceptor → IsUnread one
-    → length old.places ≡ most_places → length old.places < most
-    → AreAdded tells most (record { acceptor = old.acceptor; places = way.1 }) new
-given_way tells most old new one way told unread full few =
+pub given_way : {A S : Type 0} (tells : A → Accepted S → A → Type 0) (shows : ℕ → Type 0) (most : ℕ)
+    (old new : Intake A S) (one : Place S) → (way : GivesWay one old.places new.places)
+    → tells old.acceptor (One one.stream) new.acceptor → IsNew shows one → length old.places ≡ most_places
+    → length old.places < most → AreAdded tells shows most (record { acceptor = old.acceptor; places = way.1 }) new
+given_way tells shows most old new one way told unread full few =
     let out = way.2 in
     let fewer : length way.1 + 1 ≡ length old.places =
     omega (
@@ -487,21 +565,24 @@ given_way tells most old new one way told unread full few =
       ap length out.stay,
       length-append out.before out.behind,
     ) in
-    one_came tells most (record { acceptor = old.acceptor; places = way.1 }) new one told unread way.3
+    one_came tells shows most (record { acceptor = old.acceptor; places = way.1 }) new one told unread way.3
     (omega (arith, fewer, few)) (omega (arith, fewer, full))
 
 -- those that are read on before one is given
-pub given_behind : {S : Type 0} (remaining : S → Option (List ℕ)) (old mid new : List (Place S))
-    → AreReadOn remaining old mid → (taken : Option (Waiting S))
-    → MatchOption taken (AreReadOn remaining mid new)
-    (λ one. GivesOne remaining mid one.request one.peer.stream new)
-    → MatchOption taken (AreReadOn remaining old new)
-    (λ one. GivesOne remaining old one.request one.peer.stream new)
-given_behind remaining old mid new read None more = all_then_read remaining old mid new read more
-given_behind remaining old mid new read (Some one) gives = record {
+pub given_behind : {S : Type 0} (remaining : S → Option (List ℕ)) (fails : S → Type 0) (old mid new : List (Place S))
+    → AreReadOn remaining fails old mid → (taken : Option (Waiting S))
+    → MatchOption taken (AreAllUnfinished remaining fails mid new)
+    (λ one. GivesOne remaining fails mid (place_of one) new)
+    → MatchOption taken (AreAllUnfinished remaining fails old new)
+    (λ one. GivesOne remaining fails old (place_of one) new)
+given_behind remaining fails old mid new read None more = record {
+  read = all_then_read remaining fails old mid new read more.read;
+  unfinished = more.unfinished;
+}
+given_behind remaining fails old mid new read (Some one) gives = record {
   last = gives.last;
-  read = all_then_read remaining old mid gives.last read gives.read;
+  read = all_then_read remaining fails old mid gives.last read gives.read;
   place = gives.place;
   out = gives.out;
-  whole = gives.whole;
+  holds = gives.holds;
 }

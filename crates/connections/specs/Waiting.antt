@@ -1,17 +1,21 @@
 -- Connections that are waited for, as contracts see them.
-use Rattle.std.specs.Prelude.{ℕ, List, map, Option, Some, None}
-use Rattle.service.specs.Received.{ReceivedValue}
-use Rattle.connections.specs.Acceptor.{IsRefused}
-use Rattle.connections.specs.Places.{Place, Intake, IsUnfinished, IsUnread, IsWhole, HandsOut, FailsOne}
-use Rattle.connections.specs.declared.listening.Taken.{Taken}
-use Rattle.connections.specs.declared.listening.Taken.TheVariants as taken
+use Rattle.std.specs.Prelude.{ℕ, Bool, true, false, List, map, Option, Some, None}
+use Rattle.std.specs.Time.{instant_nanos}
+use Rattle.connections.specs.Places.{Place, Intake, IsLost, IsNew, IsUnfinished, IsWhole, HandsOut, FailsOne}
+use Rattle.connections.specs.declared.acceptor.Accepted.{Accepted}
+use Rattle.connections.specs.declared.acceptor.Accepted.TheVariants as accepted
 use Rattle.connections.specs.declared.places.Places.{Places}
 use Rattle.connections.specs.declared.waiting.Progress.{Progress}
-use Rattle.connections.specs.declared.waiting.Progress.TheVariants.{Came, Waits, Whole, Failed}
+use Rattle.connections.specs.declared.waiting.Progress.TheVariants.{Waits, Whole, Failed}
 use Rattle.connections.specs.declared.waiting.Waiting.{Waiting}
 
 abbrev pub place_of : {S : Type 0} → Waiting S → Place S
-place_of one = record { received = one.request; stream = one.peer.stream }
+place_of one = record {
+  received = one.request;
+  stream = one.peer.stream;
+  taken = instant_nanos one.taken;
+  has_failed = one.has_failed;
+}
 
 abbrev pub places_of : {S : Type 0} → Places S → List (Place S)
 places_of places = map place_of places.waiting.items
@@ -24,22 +28,29 @@ abbrev pub most_of : Option ℕ → ℕ
 most_of (Some most) = most
 most_of None = 0
 
--- a request has come so far: only one that is whole is told as whole, and only another as failed
-abbrev pub HasCome : Progress → ReceivedValue → Type 0
-HasCome Came r = IsUnfinished r
-HasCome Waits r = IsUnfinished r
-HasCome Whole r = IsWhole r
-HasCome Failed r = IsUnfinished r
+-- by that moment a request has come so far: only one that is whole is told as whole, and only one that fails as failed
+abbrev pub HasCome : {S : Type 0} → ℕ → Progress → Place S → Type 0
+HasCome now Waits one = IsUnfinished one.received
+HasCome now Whole one = IsWhole one.received
+HasCome now Failed one = IsLost now one
 
-module _ {A S : Type 0} (tells : A → Option S → A → Type 0) (fails : A → A → Type 0) where
-  -- what the acceptor told where this was taken of it
-  abbrev pub Takes : A → Taken S → A → Type 0
-  Takes old (taken.One one) new = tells old (Some one.peer.stream) new × IsUnread (place_of one)
-  Takes old taken.Failed new = IsRefused tells fails old new
-  Takes old taken.Nothing new = tells old None new
+-- what is done with: one that is whole, or one that failed by that moment
+abbrev pub IsDoneBy : {S : Type 0} → ℕ → Bool → Place S → Type 0
+IsDoneBy now true one = IsWhole one.received
+IsDoneBy now false one = IsLost now one
 
-  -- what comes of waiting: one is handed out, or one failed
-  abbrev pub ComesOf : (S → Option (List ℕ)) → ℕ → Intake A S → Option (Waiting S) → Intake A S → Type 0
-  ComesOf remaining most old None new = FailsOne tells fails remaining most old new
-  ComesOf remaining most old (Some one) new =
-      HandsOut tells remaining most old one.request one.peer.stream new
+-- what the acceptor told where this was taken of it
+abbrev pub Takes : {A S : Type 0} → (A → Accepted S → A → Type 0) → (ℕ → Type 0) → A → Accepted (Waiting S) → A
+    → Type 0
+Takes tells shows old (accepted.One one) new =
+    tells old (accepted.One one.peer.stream) new × IsNew shows (place_of one)
+Takes tells shows old accepted.Nothing new = tells old accepted.Nothing new
+Takes tells shows old accepted.Short new = tells old accepted.Short new
+Takes tells shows old accepted.Failed new = tells old accepted.Failed new
+
+-- what comes of waiting: one is handed out, or one failed
+abbrev pub ComesOf : {A S : Type 0} → (A → Accepted S → A → Type 0) → (ℕ → Type 0) → (S → Option (List ℕ))
+    → (S → Type 0) → ℕ → Intake A S → Option (Waiting S) → Intake A S → Type 0
+ComesOf tells shows remaining fails most old None new = FailsOne tells shows remaining fails most old new
+ComesOf tells shows remaining fails most old (Some one) new =
+    HandsOut tells shows remaining fails most old one.request one.peer.stream new

@@ -1,14 +1,48 @@
 //! What accepts connections.
-ghost use Rattle.std.specs.Prelude.{Option, None, MatchResult};
-ghost use Rattle.connections.specs.Acceptor.{Accepts};
+ghost use Rattle.std.specs.Prelude.{◌≡◌, ◌≢◌, [], IfErr, MatchResult, OnErr, OnOk};
+ghost use Rattle.std.specs.Io.KnownBytes.{Consumes};
+ghost use Rattle.service.specs.Received.{Receives};
+ghost use Rattle.connections.specs.declared.acceptor.Accepted.{Accepted as SpecAccepted};
 
 use mio::unix::SourceFd;
 use mio::{Events, Interest, Poll, Registry, Token};
+use service::{Request, Routes};
 use sockets::{Duplex, Listener, Stream};
 use std::io;
 use std::io::ErrorKind;
 use std::os::fd::AsRawFd;
 use std::time::Duration;
+
+/// A connection. It may tell that reading it fails; what is proved over all is proved of those that tell.
+pub trait Connection: Duplex {
+    // reading it failed, or the system can't tell when more comes
+    ghost fails: { Self → Type 0 } = { λ _. Unit {0} };
+
+    /// Reads once of a request what is there, as `Request::read_ahead`; `WouldBlock` where nothing is.
+    fn read_request(&mut self, routes: &Routes, request: &mut Request) -> Result<(), ErrorKind>
+        ensures receives { OnOk result
+            (Receives (Self.remaining self.old) (Self.remaining self.new) request.old request.new) }
+        ensures none_lost { OnErr result (Consumes (Self.remaining self.old) (Self.remaining self.new) []) }
+        ensures kept { OnErr result (request.new ≡ request.old) }
+        ensures failed { IfErr result (λ kind. kind ≢ ErrorKind.WouldBlock → kind ≢ ErrorKind.Interrupted
+            → fails self.new) };
+
+    /// From now on the system tells by that token when something may be there to be read.
+    fn register(&self, registry: &Registry, token: Token) -> io::Result<()>
+        ensures { OnErr result (fails self.now) };
+}
+
+/// It tells nothing: no contract of the machine's streams says when a read fails.
+impl Connection for Stream {
+    fn read_request(&mut self, routes: &Routes, request: &mut Request) -> Result<(), ErrorKind> {
+        request.read_ahead(routes, self)
+    }
+
+    fn register(&self, registry: &Registry, token: Token) -> io::Result<()> {
+        let descriptor = self.as_raw_fd();
+        registry.register(&mut SourceFd(&descriptor), token, Interest::READABLE)
+    }
+}
 
 /// What accepting a connection came to.
 pub enum Accepted<S> {
@@ -18,7 +52,7 @@ pub enum Accepted<S> {
     Nothing,
     /// The system has nothing to spare for one that may be there.
     Short,
-    /// One was given up by its client before it could be accepted.
+    /// One failed before it was accepted, as where its client gave it up; or it can't be waited.
     Failed,
 }
 
@@ -26,20 +60,17 @@ pub enum Accepted<S> {
 /// is proved of those that tell, and no code can know one from another.
 pub trait Acceptor {
     /// A connection.
-    type Stream: Duplex + AsRawFd + Drop;
+    type Stream: Connection + Drop;
 
-    // a connection came; or none did
-    ghost tells: { Self → Option Self.Stream → Self → Type 0 } = { λ _ _ _. Unit {0} };
-
-    // one failed before it could be accepted, or it couldn't be waited
-    ghost fails: { Self → Self → Type 0 } = { λ _ _. Unit {0} };
+    // what accepting came to; waiting comes to nothing, or fails
+    ghost tells: { Self → SpecAccepted Self.Stream → Self → Type 0 } = { λ _ _ _. Unit {0} };
 
     /// From now on accepting doesn't wait, and the system tells by that token when a connection may be there.
     fn register(&self, registry: &Registry, token: Token) -> io::Result<()>;
 
-    /// Accepts the next connection.
+    /// Accepts the next connection, whose reads don't wait.
     fn accept(&mut self) -> Accepted<Self::Stream>
-        ensures { Accepts tells fails self.old result self.new };
+        ensures { tells self.old result self.new };
 
     /// Waits until the system tells of something, for so long at most.
     fn wait(
@@ -48,7 +79,8 @@ pub trait Acceptor {
         events: &mut Events,
         limit: Option<Duration>,
     ) -> io::Result<()>
-        ensures { MatchResult result (λ waited. tells self.old None self.new) (λ error. fails self.old self.new) };
+        ensures { MatchResult result (λ waited. tells self.old Accepted.Nothing self.new)
+            (λ error. tells self.old Accepted.Failed self.new) };
 }
 
 /// It tells nothing: no contract of the machine's sockets says which connections come.
@@ -63,7 +95,10 @@ impl Acceptor for Listener {
 
     fn accept(&mut self) -> Accepted<Stream> {
         match Listener::accept(self) {
-            Ok(stream) => Accepted::One(stream),
+            Ok(stream) => match stream.set_nonblocking(true) {
+                Ok(()) => Accepted::One(stream),
+                Err(_) => Accepted::Failed,
+            },
             Err(error) => match error.kind() {
                 ErrorKind::WouldBlock => Accepted::Nothing,
                 ErrorKind::ConnectionAborted => Accepted::Failed,

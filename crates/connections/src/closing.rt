@@ -2,11 +2,10 @@
 ghost use Rattle.std.specs.Prelude.{◌≡◌, ◌<◌, IfSome};
 ghost use Rattle.connections.specs.Closing.{IsCounted};
 
+use crate::acceptor::Connection;
 use crate::peer::Peer;
 use mio::Registry;
-use sockets::Duplex;
 use std::io::{ErrorKind, Read};
-use std::os::fd::AsRawFd;
 use std::time::{Duration, Instant};
 
 /// The most octets that are dropped behind an answer.
@@ -25,6 +24,8 @@ const MOST_READS: u32 = 64;
 pub(crate) struct Closing<S> {
     /// The connection.
     pub(crate) peer: Peer<S>,
+    /// When it has had its time.
+    end: Instant,
     /// When the next octet has to have come.
     until: Instant,
     dropped: usize,
@@ -38,12 +39,15 @@ fn until(now: Instant) -> Option<Instant> {
 
 impl<S: Drop> Closing<S> {
     /// Nothing is dropped yet. None where there is no such moment.
-    pub(crate) fn new(peer: Peer<S>, now: Instant) -> Option<Closing<S>>
-        ensures peer { IfSome result (λ closing. closing.peer ≡ peer) }
+    pub(crate) fn new(peer: Peer<S>, end: Instant, now: Instant) -> Option<Closing<S>>
+        ensures peer { IfSome result (λ closing. closing.peer.stream ≡ peer.stream) }
         ensures none { IfSome result (λ closing. closing.dropped ≡ 0) }
     {
+        let mut peer = peer;
+        peer.is_ready = true;
         Some(Closing {
             peer,
+            end,
             until: until(now)?,
             dropped: 0,
         })
@@ -51,13 +55,17 @@ impl<S: Drop> Closing<S> {
 }
 
 impl<S> Closing<S> {
-    /// The time that is left.
+    /// The time until it is to be looked at again.
     pub(crate) fn left(&self, now: Instant) -> Duration {
-        self.peer.left(now).min(self.until.duration_since(now))
+        if self.peer.is_ready {
+            Duration::ZERO
+        } else {
+            self.end.min(self.until).duration_since(now)
+        }
     }
 }
 
-impl<S: Duplex + AsRawFd> Closing<S> {
+impl<S: Connection> Closing<S> {
     /// Drops what is there, and tells whether it can be closed.
     pub(crate) fn is_done(&mut self, registry: &Registry, now: Instant) -> bool
         ensures counted { IsCounted (S.remaining self.old.peer.stream) (S.remaining self.new.peer.stream)
@@ -66,7 +74,7 @@ impl<S: Duplex + AsRawFd> Closing<S> {
         if self.peer.is_ready && self.drop_some(registry, now) {
             return true;
         }
-        self.peer.end <= now || self.until <= now
+        self.end <= now || self.until <= now
     }
 
     /// Reads once and drops what came: how many octets.

@@ -14,11 +14,13 @@ mod look;
 mod peer;
 mod places;
 mod server;
+mod timer;
 mod waiting;
 
-pub use acceptor::{Accepted, Acceptor};
+pub use acceptor::{Accepted, Acceptor, Connection};
 pub use clock::{Clock, ClockFailed, SystemClock};
 pub use hearing::Hearing;
 pub use laws::requests_ask_for_what_is_met;
 pub use listening::Listening;
-pub use server::{CONNECTION_SECONDS, serve_connections, serve_each};
+pub use server::{serve_connections, serve_each};
+pub use timer::Timer;

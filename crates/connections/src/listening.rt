@@ -1,15 +1,20 @@
 //! What accepts connections, and those of them that are read side by side.
 ghost use Rattle.std.specs.Prelude.{◌≡◌, ◌<◌, true, false, [], length, None, IfOk, MatchOption, MatchResult};
-ghost use Rattle.connections.specs.Places.{AreAdded, AreReadOn, AreRounds, AreWaitedFor, FailsOne, GivesOne, HandsOut};
-ghost use Rattle.connections.specs.Places.{IsUnread, most_places};
+ghost use Rattle.std.specs.Time.{instant_nanos};
+ghost use Rattle.connections.specs.Acceptor.{WasShort};
+ghost use Rattle.connections.specs.Closing.{IsFinished};
+ghost use Rattle.connections.specs.Places.{AreAdded, AreAllUnfinished, AreRounds, AreWaitedFor, FailsOne, GivesOne};
+ghost use Rattle.connections.specs.Places.{HandsOut, IsFailure, most_places};
 ghost use Rattle.connections.specs.Waiting.{ComesOf, Takes, intake, most_of, place_of, places_of};
 
-use crate::acceptor::{Accepted, Acceptor};
+use crate::acceptor::{Accepted, Acceptor, Connection};
 use crate::closing::Closing;
 use crate::hearing::Hearing;
 use crate::limited::Limited;
 use crate::peer::Peer;
-use crate::places::{Places, lesser};
+use crate::places::{MOST_PLACES, Places, lesser};
+use crate::server::CONNECTION_SECONDS;
+use crate::timer::Timer;
 use crate::waiting::Waiting;
 use mio::{Events, Poll, Registry, Token};
 use service::{Exchanged, Request, Routes, Served};
@@ -18,14 +23,7 @@ use std::alloc::Global;
 use std::io;
 use std::io::ErrorKind;
 use std::net::{Net, Shutdown};
-use std::os::fd::AsRawFd;
 use std::time::{Clock, Duration, Instant};
-
-/// The most connections that are read side by side.
-const MOST_WAITING: usize = 256;
-
-/// For how many seconds a connection keeps its place though others wait for one.
-const PLACE_SECONDS: u64 = 2;
 
 /// The most connections that are closed side by side.
 const MOST_CLOSING: usize = 128;
@@ -39,24 +37,12 @@ const LISTENER: Token = Token(0);
 /// How many milliseconds after the system had no descriptor for a connection another is tried.
 const PAUSE_MILLISECONDS: u64 = 50;
 
-/// What was taken of what accepts connections.
-enum Taken<S> {
-    /// A connection.
-    One(Waiting<S>),
-    /// One that failed.
-    Failed,
-    /// None, since there is none, or the system has nothing to spare for it.
-    Nothing,
-}
-
 /// What accepts connections, and those of them that aren't done with. So many are read side by side. Where there are so
 /// many, the next one is taken once one of them is done with, or has waited for two seconds and no other for longer:
 /// that one is given up then.
 #[derive(Drop)]
 pub struct Listening<'l, A: Acceptor + Drop, R> {
     rt: &'l R,
-    /// So much time a request has to come, and so much its answer to go out.
-    pub limit: Duration,
     /// The octets of the database's files when it was opened, if they are known.
     pub octets: Option<u64>,
     /// What accepts the connections.
@@ -111,7 +97,7 @@ fn least_left<S>(
 }
 
 /// Drops what is there of each in turn: where the first stands that can be closed.
-fn first_closed<S: Duplex + AsRawFd>(
+fn first_closed<S: Connection>(
     closing: &mut [Closing<S>],
     registry: &Registry,
     now: Instant,
@@ -131,6 +117,11 @@ fn poll_of<N: Net, A: Acceptor>(net: &N, acceptor: &A) -> io::Result<Poll> {
     Ok(poll)
 }
 
+/// How much time an answer has to go out.
+fn limit() -> Duration {
+    Duration::from_secs(CONNECTION_SECONDS)
+}
+
 /// Until which moment a connection has to be read further behind its answer, where its client may still send.
 fn rest_until(exchanged: Exchanged, end: Option<Instant>) -> Option<Instant> {
     match exchanged.served {
@@ -139,18 +130,15 @@ fn rest_until(exchanged: Exchanged, end: Option<Instant>) -> Option<Instant> {
     }
 }
 
-impl<'l, A: Acceptor + Drop, R: AllocGlobal + Clock> Listening<'l, A, R> {
-    /// What accepts connections, of which none is taken yet. A request has so much time to come, and its answer so much
-    /// to go out; so many octets the database's files had. An error where the system can't wait for several, or memory
-    /// runs out.
+impl<'l, A: Acceptor + Drop, R: AllocGlobal + Clock + Timer> Listening<'l, A, R> {
+    /// What accepts connections, of which none is taken yet; so many octets the database's files had. An error where the
+    /// system can't wait for several, or memory runs out.
     pub fn new<N: Net>(
         net: &N,
         rt: &'l R,
         acceptor: A,
-        limit: Duration,
         octets: Option<u64>,
     ) -> io::Result<Listening<'l, A, R>>
-        ensures limit { IfOk result (λ listening. listening.limit ≡ limit) }
         ensures octets { IfOk result (λ listening. listening.octets ≡ octets) }
         ensures acceptor { IfOk result (λ listening. listening.acceptor ≡ acceptor) }
         ensures places { IfOk result (λ listening. places_of listening.places ≡ []) }
@@ -159,13 +147,12 @@ impl<'l, A: Acceptor + Drop, R: AllocGlobal + Clock> Listening<'l, A, R> {
         let poll = poll_of(net, &acceptor)?;
         Ok(Listening {
             rt,
-            limit,
             octets,
             acceptor,
             poll,
             events: Events::with_capacity(alloc, MOST_EVENTS)?,
             routes: Routes::new(alloc)?,
-            places: Places::new(alloc, MOST_WAITING)?,
+            places: Places::new(alloc)?,
             closing: Vec::with_capacity(alloc, MOST_CLOSING)?,
             is_ready: true,
             is_short: false,
@@ -175,7 +162,7 @@ impl<'l, A: Acceptor + Drop, R: AllocGlobal + Clock> Listening<'l, A, R> {
 
     /// Waits for the next connection whose request is whole; none for one that failed. At most so many are waited for.
     fn next_whole(&mut self, most: usize) -> Option<Waiting<A::Stream>>
-        ensures { ComesOf A.tells A.fails A.Stream.remaining most (intake self.old.acceptor self.old.places) result
+        ensures { ComesOf A.tells R.shows A.Stream.remaining A.Stream.fails most (intake self.old.acceptor self.old.places) result
             (intake self.new.acceptor self.new.places) }
     {
         for round in 0..u64::MAX {
@@ -189,9 +176,9 @@ impl<'l, A: Acceptor + Drop, R: AllocGlobal + Clock> Listening<'l, A, R> {
     /// Takes those that are there, reads what is there of each, and, where none is done with, waits once for more. The
     /// first that is done with: itself where its request is whole, and else none.
     fn next_done(&mut self, most: usize) -> Option<Option<Waiting<A::Stream>>>
-        ensures { MatchOption result (AreRounds A.tells A.Stream.remaining 1 most
+        ensures { MatchOption result (AreRounds A.tells R.shows A.Stream.remaining A.Stream.fails 1 most
             (intake self.old.acceptor self.old.places) (intake self.new.acceptor self.new.places))
-            (λ done. ComesOf A.tells A.fails A.Stream.remaining most (intake self.old.acceptor self.old.places) done
+            (λ done. ComesOf A.tells R.shows A.Stream.remaining A.Stream.fails most (intake self.old.acceptor self.old.places) done
             (intake self.new.acceptor self.new.places)) }
     {
         if let Some(done) = self.done_now(most) {
@@ -206,12 +193,12 @@ impl<'l, A: Acceptor + Drop, R: AllocGlobal + Clock> Listening<'l, A, R> {
     /// Takes those that are there, and reads what is there of each, as long as the clock can be read. The first that is
     /// done with: itself where its request is whole, and else none.
     fn done_now(&mut self, most: usize) -> Option<Option<Waiting<A::Stream>>>
-        ensures { MatchOption result (AreWaitedFor A.tells A.Stream.remaining most
+        ensures { MatchOption result (AreWaitedFor A.tells R.shows A.Stream.remaining A.Stream.fails most
             (intake self.old.acceptor self.old.places) (intake self.new.acceptor self.new.places))
-            (λ done. ComesOf A.tells A.fails A.Stream.remaining most (intake self.old.acceptor self.old.places) done
+            (λ done. ComesOf A.tells R.shows A.Stream.remaining A.Stream.fails most (intake self.old.acceptor self.old.places) done
             (intake self.new.acceptor self.new.places)) }
     {
-        let Ok(now) = Instant::now(self.rt) else {
+        let Ok(now) = self.rt.moment() else {
             return None;
         };
         if self.take(now, most) {
@@ -234,9 +221,9 @@ impl<'l, A: Acceptor + Drop, R: AllocGlobal + Clock> Listening<'l, A, R> {
     /// of those of which the system tells.
     fn another_whole(&mut self) -> Option<Waiting<A::Stream>>
         ensures same { self.new.acceptor ≡ self.old.acceptor }
-        ensures given { MatchOption result
-            (AreReadOn A.Stream.remaining (places_of self.old.places) (places_of self.new.places))
-            (λ one. GivesOne A.Stream.remaining (places_of self.old.places) one.request one.peer.stream
+        ensures given { MatchOption result (AreAllUnfinished A.Stream.remaining A.Stream.fails
+            (places_of self.old.places) (places_of self.new.places))
+            (λ one. GivesOne A.Stream.remaining A.Stream.fails (places_of self.old.places) (place_of one)
             (places_of self.new.places)) }
     {
         if let Some(one) = self.places.take_whole(&self.routes, self.poll.registry()) {
@@ -250,21 +237,24 @@ impl<'l, A: Acceptor + Drop, R: AllocGlobal + Clock> Listening<'l, A, R> {
     /// Takes the connections that are there, as long as fewer than so many are waited for, and fewer than 256. Whether
     /// one failed.
     fn take(&mut self, now: Instant, most: usize) -> bool
-        ensures failed { result ≡ true → FailsOne A.tells A.fails A.Stream.remaining most
+        requires shown { R.shows (instant_nanos now) }
+        ensures failed { result ≡ true → FailsOne A.tells R.shows A.Stream.remaining A.Stream.fails most
             (intake self.old.acceptor self.old.places) (intake self.new.acceptor self.new.places) }
-        ensures added { result ≡ false → AreAdded A.tells most (intake self.old.acceptor self.old.places)
-            (intake self.new.acceptor self.new.places) }
+        ensures added { result ≡ false → (added : AreAdded A.tells R.shows most
+            (intake self.old.acceptor self.old.places) (intake self.new.acceptor self.new.places))
+            × (self.new.is_short ≡ true → WasShort added.told) }
     {
         self.is_short = false;
-        let room = most.min(MOST_WAITING);
+        let room = most.min(MOST_PLACES);
         'taking: while self.places.len() < room && self.is_ready {
             match self.take_one(now) {
-                Taken::One(one) => match self.places.push(one) {
-                    Ok(()) => {}
-                    Err(_) => return true,
-                },
-                Taken::Failed => return true,
-                Taken::Nothing => return false,
+                Accepted::One(one) => self.places.push(one),
+                Accepted::Failed => return true,
+                Accepted::Nothing => return false,
+                Accepted::Short => {
+                    self.is_short = true;
+                    return false;
+                }
             }
         }
         false
@@ -276,22 +266,24 @@ impl<'l, A: Acceptor + Drop, R: AllocGlobal + Clock> Listening<'l, A, R> {
         ensures few { result ≡ true → self.now.is_short ≡ false → length (places_of self.now.places) < most }
     {
         let count = self.places.len();
-        self.is_ready && (self.is_short || (count == MOST_WAITING && count < most))
+        self.is_ready && (self.is_short || (count == MOST_PLACES && count < most))
     }
 
     /// Gives up the connection that was taken first, if it has kept its place for long enough, for one that is there
     /// and has none. At most so many are waited for. Whether one failed.
     fn give_up(&mut self, now: Instant, most: usize) -> bool
-        ensures failed { result ≡ true → FailsOne A.tells A.fails A.Stream.remaining most
+        requires shown { R.shows (instant_nanos now) }
+        ensures failed { result ≡ true → (told : _) → (self.old.is_short ≡ true → WasShort told)
+            → IsFailure A.tells R.shows A.Stream.remaining A.Stream.fails most told
             (intake self.old.acceptor self.old.places) (intake self.new.acceptor self.new.places) }
-        ensures added { result ≡ false → AreAdded A.tells most (intake self.old.acceptor self.old.places)
+        ensures added { result ≡ false → AreAdded A.tells R.shows most (intake self.old.acceptor self.old.places)
             (intake self.new.acceptor self.new.places) }
     {
         if !self.is_crowded(most) {
             return false;
         }
-        match self.places.first_keeps_until() {
-            Some(until) if until <= now => {}
+        match self.places.first_keeps(now) {
+            Some(left) if left.is_zero() => {}
             _ => return false,
         }
         // Where a descriptor is wanting, the next can't be taken before.
@@ -300,56 +292,39 @@ impl<'l, A: Acceptor + Drop, R: AllocGlobal + Clock> Listening<'l, A, R> {
             return true;
         }
         match self.take_one(now) {
-            Taken::One(one) => {
+            Accepted::One(one) => {
                 self.places.replace_first(one);
                 true
             }
-            Taken::Failed => true,
-            Taken::Nothing => false,
+            Accepted::Failed => true,
+            Accepted::Nothing => false,
+            Accepted::Short => {
+                self.is_short = true;
+                false
+            }
         }
     }
 
     /// Takes a connection, if one is there.
-    fn take_one(&mut self, now: Instant) -> Taken<A::Stream>
-        ensures taken { Takes A.tells A.fails self.old.acceptor result self.new.acceptor }
+    fn take_one(&mut self, now: Instant) -> Accepted<Waiting<A::Stream>>
+        requires shown { R.shows (instant_nanos now) }
+        ensures taken { Takes A.tells R.shows self.old.acceptor result self.new.acceptor }
         ensures places { places_of self.new.places ≡ places_of self.old.places }
+        ensures short { self.new.is_short ≡ self.old.is_short }
     {
         match self.acceptor.accept() {
-            Accepted::One(stream) => match self.waiting_of(stream, now) {
-                Ok(one) => Taken::One(one),
-                Err(_) => Taken::Failed,
-            },
-            Accepted::Failed => Taken::Failed,
+            Accepted::One(stream) => {
+                self.token = self.token.wrapping_add(1);
+                let token = Token(self.token);
+                Accepted::One(Waiting::new(stream, token, now, self.rt.alloc()))
+            }
+            Accepted::Failed => Accepted::Failed,
             Accepted::Nothing => {
                 self.is_ready = false;
-                Taken::Nothing
+                Accepted::Nothing
             }
-            Accepted::Short => {
-                self.is_short = true;
-                Taken::Nothing
-            }
+            Accepted::Short => Accepted::Short,
         }
-    }
-
-    /// A connection whose request is waited for from now on.
-    fn waiting_of(&mut self, stream: A::Stream, now: Instant) -> io::Result<Waiting<A::Stream>>
-        ensures stream { IfOk result (λ one. one.peer.stream ≡ stream) }
-        ensures unread { IfOk result (λ one. IsUnread (place_of one)) }
-        ensures acceptor { self.new.acceptor ≡ self.old.acceptor }
-        ensures places { places_of self.new.places ≡ places_of self.old.places }
-    {
-        let keeps_place_until = now.checked_add(Duration::from_secs(PLACE_SECONDS));
-        let (Some(end), Some(keeps_place_until)) = (now.checked_add(self.limit), keeps_place_until)
-        else {
-            return Err(io::Error::from(ErrorKind::InvalidInput));
-        };
-        self.token = self.token.wrapping_add(1);
-        Ok(Waiting {
-            peer: Peer::new(stream, Token(self.token), end)?,
-            request: Request::new(self.rt.alloc()),
-            keeps_place_until,
-            has_failed: false,
-        })
     }
 
     /// Ends our side of a connection that was answered, and drops what its client still sends, until that moment.
@@ -360,7 +335,7 @@ impl<'l, A: Acceptor + Drop, R: AllocGlobal + Clock> Listening<'l, A, R> {
         let now = Instant::now(self.rt)?;
         peer.stream.shutdown(Shutdown::Write)?;
         peer.stream.set_nonblocking(true)?;
-        let Some(closing) = Closing::new(peer.again(end), now) else {
+        let Some(closing) = Closing::new(peer, end, now) else {
             return Err(io::Error::from(ErrorKind::InvalidInput));
         };
         if self.closing.len() >= MOST_CLOSING {
@@ -385,24 +360,29 @@ impl<'l, A: Acceptor + Drop, R: AllocGlobal + Clock> Listening<'l, A, R> {
         }
     }
 
-    /// Waits until the connections that are being closed can be.
+    /// Waits until the connections that are being closed can be, or as long as it can be waited.
     pub(crate) fn finish(&mut self)
-        ensures acceptor { self.new.acceptor ≡ self.old.acceptor }
         ensures places { places_of self.new.places ≡ places_of self.old.places }
+        ensures finished { IsFinished A.tells (self.new.closing.items ≡ []) self.old.acceptor self.new.acceptor }
     {
-        for _ in 0..u64::MAX {
-            let Ok(now) = Instant::now(self.rt) else {
-                return;
-            };
-            self.close_some(now);
+        for round in 0..u64::MAX {
+            self.close_now();
             if self.closing.is_empty() {
                 return;
             }
-            let left = self.left(0);
-            match self.poll.poll(&mut self.events, left) {
-                Err(error) if error.kind() != ErrorKind::Interrupted => return,
-                _ => self.hear_all(),
-            }
+            let Ok(()) = self.wait(0) else {
+                return;
+            };
+        }
+    }
+
+    /// Drops what is there of the connections that are being closed, as long as the clock can be read.
+    fn close_now(&mut self)
+        ensures acceptor { self.new.acceptor ≡ self.old.acceptor }
+        ensures places { places_of self.new.places ≡ places_of self.old.places }
+    {
+        if let Ok(now) = self.rt.moment() {
+            self.close_some(now);
         }
     }
 
@@ -411,16 +391,17 @@ impl<'l, A: Acceptor + Drop, R: AllocGlobal + Clock> Listening<'l, A, R> {
         if self.is_short {
             return Some(Duration::from_millis(PAUSE_MILLISECONDS));
         }
-        match self.places.first_keeps_until() {
-            Some(until) if self.is_crowded(most) => Some(until.duration_since(now)),
-            _ => None,
+        if self.is_crowded(most) {
+            self.places.first_keeps(now)
+        } else {
+            None
         }
     }
 
     /// The time until a connection has had its own, or one may be taken; a while where the clock can't be read. At most
     /// so many are waited for.
     fn left(&self, most: usize) -> Option<Duration> {
-        match Instant::now(self.rt) {
+        match self.rt.moment() {
             Ok(now) => {
                 let pause = self.pause(now, most);
                 least_left(&self.closing, now, self.places.least_left(now, pause))
@@ -431,8 +412,8 @@ impl<'l, A: Acceptor + Drop, R: AllocGlobal + Clock> Listening<'l, A, R> {
 
     /// Waits until something may be there, or a connection has had its time. At most so many are waited for.
     fn wait(&mut self, most: usize) -> io::Result<()>
-        ensures told { MatchResult result (λ waited. A.tells self.old.acceptor None self.new.acceptor)
-            (λ error. A.fails self.old.acceptor self.new.acceptor) }
+        ensures told { MatchResult result (λ waited. A.tells self.old.acceptor Accepted.Nothing self.new.acceptor)
+            (λ error. A.tells self.old.acceptor Accepted.Failed self.new.acceptor) }
         ensures places { places_of self.new.places ≡ places_of self.old.places }
     {
         let left = self.left(most);
@@ -453,17 +434,17 @@ impl<'l, A: Acceptor + Drop, R: AllocGlobal + Clock> Listening<'l, A, R> {
 }
 
 /// It tells which connections came, which places are given and taken, and what came of each request.
-impl<'l, A: Acceptor + Drop, R: AllocGlobal + Clock> Hearing for Listening<'l, A, R> {
+impl<'l, A: Acceptor + Drop, R: AllocGlobal + Clock + Timer> Hearing for Listening<'l, A, R> {
     type Stream = Limited<'l, R, A::Stream>;
 
-    ghost hands = { λ old waits received limited new. HandsOut A.tells A.Stream.remaining (most_of waits)
+    ghost hands = { λ old waits received limited new. HandsOut A.tells R.shows A.Stream.remaining A.Stream.fails (most_of waits)
         (intake old.acceptor old.places) received limited.peer.stream (intake new.acceptor new.places) };
 
-    ghost fails = { λ old most new. FailsOne A.tells A.fails A.Stream.remaining most
+    ghost fails = { λ old most new. FailsOne A.tells R.shows A.Stream.remaining A.Stream.fails most
         (intake old.acceptor old.places) (intake new.acceptor new.places) };
 
-    ghost stays = { λ old new. AreWaitedFor A.tells A.Stream.remaining 0
-        (intake old.acceptor old.places) (intake new.acceptor new.places) };
+    ghost stays = { λ old new. (new.acceptor ≡ old.acceptor) × AreAllUnfinished A.Stream.remaining A.Stream.fails
+        (places_of old.places) (places_of new.places) };
 
     // none gets a place again
     ghost takes_back = { λ old limited exchanged new. (new.acceptor ≡ old.acceptor)
@@ -483,13 +464,13 @@ impl<'l, A: Acceptor + Drop, R: AllocGlobal + Clock> Hearing for Listening<'l, A
 
     fn next(&mut self, most: usize) -> Option<(Request, Limited<'l, R, A::Stream>)> {
         let Waiting { peer, request, .. } = self.next_whole(most)?;
-        Some((request, Limited::new(self.rt, peer, self.limit)))
+        Some((request, Limited::new(self.rt, peer, limit())))
     }
 
     fn next_now(&mut self) -> Option<(Request, Limited<'l, R, A::Stream>)> {
         match self.another_whole() {
             Some(Waiting { peer, request, .. }) => {
-                Some((request, Limited::new(self.rt, peer, self.limit)))
+                Some((request, Limited::new(self.rt, peer, limit())))
             }
             None => None,
         }

@@ -1,31 +1,46 @@
 //! Connections whose requests are still to come, each with the octets that came of it.
-ghost use Rattle.std.specs.Prelude.{◌≡◌, ◌<◌, [], ◌∷◌, ◌++◌, length, true, false};
-ghost use Rattle.std.specs.Prelude.{OnErr, IfOk, IfSome, MatchOption, OnOk};
-ghost use Rattle.connections.specs.Places.{AreReadOn, DropsOne, GivesOne, GivesWay, IsTakenOut, IsWholeAt};
-ghost use Rattle.connections.specs.Waiting.{place_of, places_of};
+ghost use Rattle.std.specs.Prelude.{◌≤◌, vec_capacity};
 
+use crate::acceptor::Connection;
 use crate::waiting::{Progress, Waiting, is_whole};
 use mio::{Registry, Token};
 use service::Routes;
-use sockets::Duplex;
 use std::alloc::{AllocError, Global};
-use std::os::fd::AsRawFd;
 use std::time::{Duration, Instant};
+
+/// The most connections that are read side by side.
+pub(crate) const MOST_PLACES: usize = 256;
+
+/// For how many seconds a connection keeps its place though others wait for one.
+const PLACE_SECONDS: u64 = 2;
 
 /// The places of those that are waited for, in the order in which they were taken.
 #[derive(Drop)]
 pub(crate) struct Places<S> {
     waiting: Vec<Waiting<S>>,
+    ghost room: { 256 ≤ vec_capacity waiting },
 }
 
 impl<S: Drop> Places<S> {
-    /// None has a place yet. There is room for so many.
-    pub(crate) fn new(alloc: Global, room: usize) -> Result<Places<S>, AllocError>
+    ghost use Rattle.std.specs.Prelude.{◌≡◌, ◌<◌, [], ◌∷◌, ◌++◌, length, IfOk};
+    ghost use Rattle.connections.specs.Places.{GivesWay, most_places};
+    ghost use Rattle.connections.specs.Waiting.{place_of, places_of};
+
+    /// None has a place yet.
+    pub(crate) fn new(alloc: Global) -> Result<Places<S>, AllocError>
         ensures { IfOk result (λ places. places_of places ≡ []) }
     {
         Ok(Places {
-            waiting: Vec::with_capacity(alloc, room)?,
+            waiting: Vec::with_capacity(alloc, MOST_PLACES)?,
         })
+    }
+
+    /// One more gets a place, behind the others.
+    pub(crate) fn push(&mut self, one: Waiting<S>)
+        requires { length (places_of self.old) < most_places }
+        ensures { places_of self.new ≡ places_of self.old ++ (place_of one ∷ []) }
+    {
+        self.waiting.push_reserved(one);
     }
 
     /// One more gets a place, behind the others, for which the first loses its own.
@@ -36,18 +51,15 @@ impl<S: Drop> Places<S> {
         self.waiting[0] = one;
         self.waiting.rotate_left(1);
     }
-
-    /// One more gets a place, behind the others. An error where memory is wanting; it is dropped then.
-    pub(crate) fn push(&mut self, one: Waiting<S>) -> Result<(), AllocError>
-        ensures added { OnOk result (places_of self.new ≡ places_of self.old ++ (place_of one ∷ [])) }
-        ensures kept { OnErr result (places_of self.new ≡ places_of self.old) }
-    {
-        self.waiting.push(one)?;
-        Ok(())
-    }
 }
 
 impl<S> Places<S> {
+    ghost use Rattle.std.specs.Prelude.{◌≡◌, ◌+◌, ◌<◌, length, IfSome};
+    ghost use Rattle.std.specs.Duration.{as_nanos};
+    ghost use Rattle.std.specs.Time.{instant_nanos};
+    ghost use Rattle.connections.specs.Places.{IsAt, IsTakenOut, MayGiveWay};
+    ghost use Rattle.connections.specs.Waiting.{place_of, places_of};
+
     /// How many have a place.
     pub(crate) fn len(&self) -> usize
         ensures { result ≡ length (places_of self.now) }
@@ -55,13 +67,14 @@ impl<S> Places<S> {
         self.waiting.len()
     }
 
-    /// Until when the first of them keeps its place, though others wait for one; none where there is none, or where its
-    /// request is whole.
-    pub(crate) fn first_keeps_until(&self) -> Option<Instant>
-        ensures { IfSome result (λ until. IsWholeAt 0 false (places_of self.now)) }
+    /// How long the first of them keeps its place still, though others wait for one; none where there is none, or where
+    /// its request is whole.
+    pub(crate) fn first_keeps(&self, now: Instant) -> Option<Duration>
+        ensures { IfSome result (λ left. as_nanos left ≡ 0
+            → IsAt 0 (MayGiveWay (instant_nanos now)) (places_of self.now)) }
     {
         match self.waiting.first() {
-            Some(first) if !is_whole(&first.request) => Some(first.keeps_place_until),
+            Some(first) if !is_whole(&first.request) => Some(first.left_of(PLACE_SECONDS, now)),
             _ => None,
         }
     }
@@ -87,7 +100,7 @@ impl<S> Places<S> {
     pub(crate) fn least_left(&self, now: Instant, least: Option<Duration>) -> Option<Duration> {
         let mut least = least;
         for one in &self.waiting {
-            least = lesser(least, one.peer.left(now));
+            least = lesser(least, one.left(now));
         }
         least
     }
@@ -101,7 +114,14 @@ pub(crate) fn lesser(least: Option<Duration>, left: Duration) -> Option<Duration
     }
 }
 
-impl<S: Duplex + AsRawFd + Drop> Places<S> {
+impl<S: Connection + Drop> Places<S> {
+    ghost use Rattle.std.specs.Prelude.{◌≡◌, IfSome, MatchOption};
+    ghost use Rattle.std.specs.Time.{instant_nanos};
+    ghost use Rattle.std.specs.List.{AllByRecursion};
+    ghost use Rattle.connections.specs.Places.{AreAllUnfinished, AreReadOn, GivesOne, IsAt, IsUnfinished, IsWhole};
+    ghost use Rattle.connections.specs.Places.{LosesOne};
+    ghost use Rattle.connections.specs.Waiting.{IsDoneBy, place_of, places_of};
+
     /// Reads what is there of each in turn: where the first stands that is done with, and whether its request is whole.
     fn first_done(
         &mut self,
@@ -109,12 +129,14 @@ impl<S: Duplex + AsRawFd + Drop> Places<S> {
         registry: &Registry,
         now: Instant,
     ) -> Option<(usize, bool)>
-        ensures read { AreReadOn S.remaining (places_of self.old) (places_of self.new) }
-        ensures whole { IfSome result (λ done. IsWholeAt done.0 done.1 (places_of self.new)) }
+        ensures read { AreReadOn S.remaining S.fails (places_of self.old) (places_of self.new) }
+        ensures done { IfSome result
+            (λ done. IsAt done.0 (IsDoneBy (instant_nanos now) done.1) (places_of self.new)) }
     {
         for place in 0..self.waiting.len() {
-            match self.waiting[place].progress(routes, registry, now) {
-                Progress::Came | Progress::Waits => {}
+            self.waiting[place].read(routes, registry);
+            match self.waiting[place].progress(now) {
+                Progress::Waits => {}
                 Progress::Whole => return Some((place, true)),
                 Progress::Failed => return Some((place, false)),
             }
@@ -125,11 +147,13 @@ impl<S: Duplex + AsRawFd + Drop> Places<S> {
     /// Reads what is there of each in turn: where the first stands whose request is whole. One that failed keeps its
     /// place.
     fn first_whole(&mut self, routes: &Routes, registry: &Registry) -> Option<usize>
-        ensures read { AreReadOn S.remaining (places_of self.old) (places_of self.new) }
-        ensures whole { IfSome result (λ place. IsWholeAt place true (places_of self.new)) }
+        ensures read { AreReadOn S.remaining S.fails (places_of self.old) (places_of self.new) }
+        ensures whole { MatchOption result (AllByRecursion (λ one. IsUnfinished one.received) (places_of self.new))
+            (λ place. IsAt place (λ one. IsWhole one.received) (places_of self.new)) }
     {
         for place in 0..self.waiting.len() {
-            if let Progress::Whole = self.waiting[place].progress_now(routes, registry) {
+            self.waiting[place].read(routes, registry);
+            if is_whole(&self.waiting[place].request) {
                 return Some(place);
             }
         }
@@ -138,8 +162,8 @@ impl<S: Duplex + AsRawFd + Drop> Places<S> {
 
     /// Another whose request is whole already is taken out of its place. None where there is none.
     pub(crate) fn take_whole(&mut self, routes: &Routes, registry: &Registry) -> Option<Waiting<S>>
-        ensures { MatchOption result (AreReadOn S.remaining (places_of self.old) (places_of self.new))
-            (λ one. GivesOne S.remaining (places_of self.old) one.request one.peer.stream (places_of self.new)) }
+        ensures { MatchOption result (AreAllUnfinished S.remaining S.fails (places_of self.old) (places_of self.new))
+            (λ one. GivesOne S.remaining S.fails (places_of self.old) (place_of one) (places_of self.new)) }
     {
         let place = self.first_whole(routes, registry)?;
         Some(self.remove(place))
@@ -152,9 +176,10 @@ impl<S: Duplex + AsRawFd + Drop> Places<S> {
         registry: &Registry,
         now: Instant,
     ) -> Option<Option<Waiting<S>>>
-        ensures { MatchOption result (AreReadOn S.remaining (places_of self.old) (places_of self.new))
-            (λ done. MatchOption done (DropsOne S.remaining (places_of self.old) (places_of self.new))
-            (λ one. GivesOne S.remaining (places_of self.old) one.request one.peer.stream (places_of self.new))) }
+        ensures { MatchOption result (AreReadOn S.remaining S.fails (places_of self.old) (places_of self.new))
+            (λ done. MatchOption done ((one : _)
+            × LosesOne S.remaining S.fails (instant_nanos now) (places_of self.old) one (places_of self.new))
+            (λ one. GivesOne S.remaining S.fails (places_of self.old) (place_of one) (places_of self.new))) }
     {
         let (place, is_whole) = self.first_done(routes, registry, now)?;
         let one = self.remove(place);

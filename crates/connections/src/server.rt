@@ -1,5 +1,6 @@
 //! Connections whose requests are whole, one after the other.
-ghost use Rattle.std.specs.Prelude.{◌≡◌, ◌<◌, ◌≤◌, IfOk, OnErr, OnOk};
+ghost use Rattle.std.specs.Prelude.{◌≡◌, ◌<◌, ◌≤◌, [], IfOk, OnErr, OnOk};
+ghost use Rattle.connections.specs.Closing.{IsFinished};
 ghost use Rattle.connections.specs.Heard.{AreHeard, IsDropped, IsHeard, StopsHearing, hall};
 ghost use Rattle.connections.specs.Run.{ServesEach};
 ghost use Rattle.connections.specs.Waiting.{places_of};
@@ -12,6 +13,7 @@ use crate::hearing::Hearing;
 use crate::laws::requests_ask_for_what_is_met;
 use crate::limited::Limited;
 use crate::listening::Listening;
+use crate::timer::Timer;
 use book::Book;
 use cms::Signer;
 use desk::{
@@ -21,7 +23,7 @@ use desk::{
 use std::io::Write;
 
 /// The limit on a connection's time: so many seconds for its request, and so many for its answer.
-pub const CONNECTION_SECONDS: u64 = 20;
+pub(crate) const CONNECTION_SECONDS: u64 = 20;
 
 /// Waits for the next connection whose request is whole, gathers those that can be answered with it, and answers them.
 /// At most so many are waited for. How many they were; one where it failed.
@@ -120,8 +122,8 @@ pub fn serve_each<L: Hearing, C: Clock, B: Book + Drop, G: Signer>(
 /// longest, for two seconds at least. Where the system has no descriptor for one, it is tried again after 50
 /// milliseconds.
 ///
-/// A request has the listening's time to come, from when its connection is taken, and its answer as much to go out,
-/// from when it begins; what isn't done by then fails. The clock is asked once for each request, when it is there.
+/// A request has 20 seconds to come, from when its connection is taken, and its answer as many to go out, from when it
+/// begins; what isn't done by then fails. The clock is asked once for each request, when it is there.
 /// Where a client may still send behind the answer, that is read and dropped for a while, so that the answer isn't
 /// lost; the call ends once the last of these is closed.
 ///
@@ -130,7 +132,7 @@ pub fn serve_each<L: Hearing, C: Clock, B: Book + Drop, G: Signer>(
 pub fn serve_connections<
     'l,
     A: Acceptor + Drop,
-    R: AllocGlobal + std::time::Clock,
+    R: AllocGlobal + Timer + std::time::Clock,
     C: Clock,
     B: Book + Drop,
     G: Signer,
@@ -143,7 +145,8 @@ pub fn serve_connections<
 ) -> Result<(), ClockFailed>
     // then it is waited until the last of them are closed, which takes no other
     ensures heard { OnOk result ((last : _)
-        × (listening.new.acceptor ≡ last.acceptor) × (places_of listening.new.places ≡ places_of last.places)
+        × IsFinished A.tells (listening.new.closing.items ≡ []) last.acceptor listening.new.acceptor
+        × (places_of listening.new.places ≡ places_of last.places)
         × AreHeard ⟦<Listening<'l, A, R> as Hearing>⟧.hands ⟦<Listening<'l, A, R> as Hearing>⟧.fails
         ⟦<Listening<'l, A, R> as Hearing>⟧.stays ⟦<Listening<'l, A, R> as Hearing>⟧.takes_back
         ⟦<Limited<'l, R, A::Stream> as Write>⟧.contents C.reads B.Standing G.signs G.fault_count count count

@@ -1,15 +1,18 @@
 //! A connection whose request is still to come.
-ghost use Rattle.std.specs.Prelude.{◌≡◌, true, false};
+ghost use Rattle.std.specs.Prelude.{◌≡◌, ◌*◌, ◌-◌, [], true, false};
+ghost use Rattle.std.specs.Duration.{as_nanos};
+ghost use Rattle.std.specs.Time.{instant_nanos};
 ghost use Rattle.connections.specs.Places.{IsReadOn, IsUnfinished, IsWhole};
 ghost use Rattle.connections.specs.Waiting.{HasCome, place_of};
 
+use crate::acceptor::Connection;
 use crate::peer::Peer;
-use mio::Registry;
+use crate::server::CONNECTION_SECONDS;
+use mio::{Registry, Token};
 use service::{Request, Routes};
-use sockets::Duplex;
+use std::alloc::Global;
 use std::io::ErrorKind;
-use std::os::fd::AsRawFd;
-use std::time::Instant;
+use std::time::{Duration, Instant};
 
 /// How often one connection is read before it is another's turn.
 const MOST_READS: u32 = 64;
@@ -17,13 +20,11 @@ const MOST_READS: u32 = 64;
 /// How far a request has come.
 #[derive(Clone, Copy)]
 pub(crate) enum Progress {
-    /// Octets came, and others are wanted.
-    Came,
-    /// Others are wanted, and none are there yet.
+    /// Others are wanted.
     Waits,
     /// All is there that will be read of it.
     Whole,
-    /// No octet came before the end, or a read failed.
+    /// It isn't, and no more of it is waited for.
     Failed,
 }
 
@@ -35,21 +36,6 @@ pub(crate) fn is_whole(request: &Request) -> bool
     !request.is_open() && !request.is_closed()
 }
 
-/// How far a request has come behind a read.
-fn progress_after(request: &Request, read: Result<(), ErrorKind>) -> Progress
-    ensures { HasCome result request.now }
-{
-    if is_whole(request) {
-        return Progress::Whole;
-    }
-    match read {
-        Ok(()) if request.is_open() => Progress::Came,
-        Err(ErrorKind::WouldBlock) => Progress::Waits,
-        Err(ErrorKind::Interrupted) => Progress::Came,
-        _ => Progress::Failed,
-    }
-}
-
 /// A connection, and what has come of its request.
 #[derive(Drop)]
 pub(crate) struct Waiting<S> {
@@ -57,77 +43,86 @@ pub(crate) struct Waiting<S> {
     pub(crate) peer: Peer<S>,
     /// Its request.
     pub(crate) request: Request,
-    /// Until when it isn't given up for another.
-    pub(crate) keeps_place_until: Instant,
-    /// It has failed, and is still to be told.
+    /// When it was taken.
+    pub(crate) taken: Instant,
+    /// Reading it failed.
     pub(crate) has_failed: bool,
 }
 
-impl<S: Duplex + AsRawFd> Waiting<S> {
-    /// Reads once: how far its request has come by that.
-    fn read_once(&mut self, routes: &Routes) -> Progress
-        ensures read { IsReadOn S.remaining (place_of self.old) (place_of self.new) }
-        ensures come { HasCome result self.new.request }
+impl<S> Waiting<S> {
+    /// One that is taken, under a token.
+    pub(crate) fn new(stream: S, token: Token, taken: Instant, alloc: Global) -> Waiting<S>
+        ensures stream { result.peer.stream ≡ stream }
+        ensures unread { result.request.octets ≡ [] }
+        ensures going_on { result.request.is_ended ≡ false }
+        ensures taken { result.taken ≡ taken }
+        ensures fine { result.has_failed ≡ false }
     {
-        let read = self.request.read_ahead(routes, &mut self.peer.stream);
-        progress_after(&self.request, read)
-    }
-
-    /// Reads what is there.
-    #[tactic(auto, using(crate::proofs::PlacesLemmas::still_read, crate::proofs::PlacesLemmas::read_then))]
-    fn read(&mut self, routes: &Routes, registry: &Registry) -> Progress
-        requires { IsUnfinished self.old.request }
-        ensures read { IsReadOn S.remaining (place_of self.old) (place_of self.new) }
-        ensures come { HasCome result self.new.request }
-    {
-        for _ in 0..MOST_READS {
-            match self.read_once(routes) {
-                Progress::Came => {}
-                Progress::Waits => match self.peer.wait(registry) {
-                    Ok(()) => return Progress::Waits,
-                    Err(_) => return Progress::Failed,
-                },
-                done => return done,
-            }
+        Waiting {
+            peer: Peer::new(stream, token),
+            request: Request::new(alloc),
+            taken,
+            has_failed: false,
         }
-        Progress::Came
     }
 
-    /// How far its request has come by what is there, whatever the time.
-    pub(crate) fn progress_now(&mut self, routes: &Routes, registry: &Registry) -> Progress
-        ensures read { IsReadOn S.remaining (place_of self.old) (place_of self.new) }
-        ensures come { HasCome result self.new.request }
+    /// What is left of so many seconds since it was taken.
+    pub(crate) fn left_of(&self, seconds: u64, now: Instant) -> Duration
+        ensures { as_nanos result ≡ seconds * 1_000_000_000 - (instant_nanos now - instant_nanos self.now.taken) }
+    {
+        Duration::from_secs(seconds).saturating_sub(now.duration_since(self.taken))
+    }
+
+    /// The time until it is to be looked at again.
+    pub(crate) fn left(&self, now: Instant) -> Duration {
+        if self.peer.is_ready {
+            Duration::ZERO
+        } else {
+            self.left_of(CONNECTION_SECONDS, now)
+        }
+    }
+
+    /// How far its request has come. It fails where its input ended before any octet, reading it failed, or its time is
+    /// up.
+    pub(crate) fn progress(&self, now: Instant) -> Progress
+        ensures { HasCome (instant_nanos now) result (place_of self.now) }
     {
         if is_whole(&self.request) {
             return Progress::Whole;
         }
-        if self.has_failed {
+        if self.request.is_closed()
+            || self.has_failed
+            || self.left_of(CONNECTION_SECONDS, now).is_zero()
+        {
             return Progress::Failed;
         }
-        let progress = if self.peer.is_ready {
-            self.read(routes, registry)
-        } else {
-            Progress::Waits
-        };
-        if let Progress::Failed = progress {
-            self.has_failed = true;
+        Progress::Waits
+    }
+}
+
+impl<S: Connection> Waiting<S> {
+    /// Reads once.
+    fn read_once(&mut self, routes: &Routes, registry: &Registry)
+        requires { self.old.has_failed ≡ false }
+        ensures { IsReadOn S.remaining S.fails (place_of self.old) (place_of self.new) }
+    {
+        match self.peer.stream.read_request(routes, &mut self.request) {
+            Ok(()) | Err(ErrorKind::Interrupted) => {}
+            Err(ErrorKind::WouldBlock) => self.has_failed = self.peer.wait(registry).is_err(),
+            Err(_) => self.has_failed = true,
         }
-        progress
     }
 
-    /// How far its request has come. It has failed where it isn't whole and its time is up.
-    pub(crate) fn progress(
-        &mut self,
-        routes: &Routes,
-        registry: &Registry,
-        now: Instant,
-    ) -> Progress
-        ensures read { IsReadOn S.remaining (place_of self.old) (place_of self.new) }
-        ensures come { HasCome result self.new.request }
+    /// Reads what is there, as long as others are wanted.
+    #[tactic(auto, using(crate::proofs::PlacesLemmas::still_read, crate::proofs::PlacesLemmas::read_then))]
+    pub(crate) fn read(&mut self, routes: &Routes, registry: &Registry)
+        ensures { IsReadOn S.remaining S.fails (place_of self.old) (place_of self.new) }
     {
-        match self.progress_now(routes, registry) {
-            Progress::Came | Progress::Waits if self.peer.end <= now => Progress::Failed,
-            progress => progress,
+        for _ in 0..MOST_READS {
+            if self.has_failed || !self.peer.is_ready || !self.request.is_open() {
+                return;
+            }
+            self.read_once(routes, registry);
         }
     }
 }

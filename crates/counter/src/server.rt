@@ -1,6 +1,5 @@
 //! The word `serve`.
-ghost use Rattle.std.specs.Prelude.{◌≡◌, ◌*◌, ◌⊎◌, Err, IfErr, OnOk, Ok};
-ghost use Rattle.std.specs.Duration.{as_nanos};
+ghost use Rattle.std.specs.Prelude.{◌≡◌, ◌⊎◌, Err, IfErr, OnOk, Ok};
 ghost use Rattle.console.specs.Files.{source_of};
 ghost use Rattle.counter.specs.Fault.{IsServeFault};
 ghost use Rattle.counter.specs.Connections.{ServesAt, ServesConnections, state_after, state_before};
@@ -15,7 +14,7 @@ use crate::host::Host;
 use book::Book;
 use cms::Signer;
 use command_line::ServeWords;
-use connections::{CONNECTION_SECONDS, Clock, Listening, SystemClock, serve_connections};
+use connections::{Clock, Listening, SystemClock, serve_connections};
 use console::{Fault, FileSource, InputFault};
 use desk::Settings;
 use operations::{
@@ -23,7 +22,7 @@ use operations::{
     SignedDesk, Start, perform_at_desk,
 };
 use sockets::Listener;
-use std::time::{Duration, Instant};
+use std::time::Instant;
 
 /// Connections at an address are served.
 #[derive(Drop)]
@@ -64,10 +63,9 @@ impl DeskOperation<(), ()> for Serving<'_> {
         _input: &mut (),
         _output: &mut (),
     ) -> Result<(), OperationFault> {
-        let limit = connection_limit();
         let rt = self.rt;
         let mut clock = SystemClock::new(rt);
-        match Listening::new(rt, rt, listener, limit, self.octets) {
+        match Listening::new(rt, rt, listener, self.octets) {
             Ok(mut listening) => {
                 if self.tell {
                     tell_listening(rt, &listening.acceptor, self.address, self.begun);
@@ -87,13 +85,6 @@ impl DeskOperation<(), ()> for Serving<'_> {
             Err(_) => Err(OperationFault::Unheard),
         }
     }
-}
-
-/// How long a request may take to come, and its answer to go out.
-fn connection_limit() -> Duration
-    ensures { as_nanos result ≡ 20 * 1_000_000_000 }
-{
-    Duration::from_secs(CONNECTION_SECONDS)
 }
 
 /// Serves HTTP connections at an address; readings are the machine's clock's. Connections are read side by side, and

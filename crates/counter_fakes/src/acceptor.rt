@@ -1,11 +1,11 @@
 ghost use Rattle.std.specs.Prelude.{◌≡◌};
 
-use connections::{Accepted, Acceptor};
+use connections::{Accepted, Acceptor, Connection};
 use mio::{Events, Poll, Registry, Token};
+use service::{Request, Routes};
 use sockets::Duplex;
-use std::io::{self, Read, Write};
+use std::io::{self, ErrorKind, Read, Write};
 use std::net::Shutdown;
-use std::os::fd::{AsRawFd, RawFd};
 use std::time::Duration;
 
 /// A connection whose client has sent all that it will: what comes is a reader's, and what goes is a writer's. It has
@@ -56,9 +56,13 @@ impl<R: Read, W: Write> Duplex for ScriptedStream<R, W> {
     }
 }
 
-impl<R, W> AsRawFd for ScriptedStream<R, W> {
-    fn as_raw_fd(&self) -> RawFd {
-        -1
+impl<R: Read, W: Write> Connection for ScriptedStream<R, W> {
+    fn read_request(&mut self, routes: &Routes, request: &mut Request) -> Result<(), ErrorKind> {
+        request.read_ahead(routes, self)
+    }
+
+    fn register(&self, _registry: &Registry, _token: Token) -> io::Result<()> {
+        Ok(())
     }
 }
 
@@ -71,14 +75,12 @@ pub struct ScriptedAcceptor<S> {
 }
 
 /// It never fails, and waits for nothing.
-impl<S: Duplex + AsRawFd + Drop> Acceptor for ScriptedAcceptor<S> {
+impl<S: Connection + Drop> Acceptor for ScriptedAcceptor<S> {
     ghost use Rattle.counter_fakes.specs.Scripted.{Gives};
 
     type Stream = S;
 
     ghost tells = { λ before told after. Gives before.streams.items told after.streams.items };
-
-    ghost fails = { λ before after. ⊥ };
 
     fn register(&self, _registry: &Registry, _token: Token) -> io::Result<()> {
         Ok(())

@@ -1,11 +1,10 @@
 //! Exchanges over loopback, with the database in memory.
 use book::Book;
 use cms::KeyedHash;
-use connections::{CONNECTION_SECONDS, Clock, Listening, SystemClock, serve_connections};
+use connections::{Clock, Listening, SystemClock, serve_connections};
 use desk::Desk;
 use sockets::Listener;
 use std::net::TcpListener;
-use std::time::Duration;
 use trials::{AtDesk, at_desk_of_work};
 
 /// Connections that are served.
@@ -32,10 +31,9 @@ impl AtDesk for Serving<'_> {
 fn serve_at(rt: &HostRuntime, listener: Listener, count: u32) -> anyhow::Result<()> {
     let mut clock = SystemClock::new(rt);
     let reading = clock.reading()?;
-    let limit = Duration::from_secs(CONNECTION_SECONDS);
     let mut serving = Serving {
         rt,
-        listening: Listening::new(rt, rt, listener, limit, None)?,
+        listening: Listening::new(rt, rt, listener, None)?,
         count,
     };
     at_desk_of_work(rt.alloc(), reading, &mut serving)

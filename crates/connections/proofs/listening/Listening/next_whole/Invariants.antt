@@ -4,5 +4,5 @@ use Rattle.connections.proofs.listening.Listening.next_whole.Given as goal
 
 abbrev pub invariant-loop-round : goal.invariant-loop-round
 invariant-loop-round g l =
-    AreRounds g.A.Acceptor.tells g.A.Stream.Read.remaining l.round l.most
+    AreRounds g.A.Acceptor.tells g.R.Timer.shows g.A.Stream.Read.remaining g.A.Stream.Connection.fails l.round l.most
     (intake l.initial.self.acceptor l.initial.self.places) (intake l.self.acceptor l.self.places)

@@ -1,30 +1,36 @@
-use Rattle.std.proofs.Common.{◌<◌, length, rules, subst, sym, true}
-use Rattle.std.proofs.lemmas.Bool.{false≢true}
-use Rattle.connections.specs.Waiting.{HasCome, place_of, places_of}
-use Rattle.connections.proofs.PlacesLemmas.{all_still, read_once_more, whole_at}
+use Rattle.std.proofs.Common.{◌∙◌, ◌≤◌, ◌<◌, length, arith, rules, subst}
+use Rattle.std.proofs.lemmas.List.{get_or-set_same, length-map}
+use Rattle.connections.specs.Places.{IsUnfinished}
+use Rattle.connections.specs.Waiting.{place_of, places_of}
+use Rattle.connections.proofs.PlacesLemmas.{all_still, none_before, one_more_before, read_once_more}
 use Rattle.connections.proofs.places.Places.first_whole.Goals as goal
 
 pub loop-place-init : goal.loop-place-init
-loop-place-init g c = all_still g.S.Read.remaining (places_of c.args.self.now)
+loop-place-init g c = (all_still g.S.Read.remaining g.S.Connection.fails (places_of c.args.self.now), tt)
 
-pub returns-in-Whole-clause-read : goal.returns-in-Whole-clause-read
-returns-in-Whole-clause-read g c =
+pub returns-then-is_whole-clause-read : goal.returns-then-is_whole-clause-read
+returns-then-is_whole-clause-read g c =
     let items = c.loop-place.self.waiting.items in
     let within : c.loop-place.place < length items = search rules in
-    read_once_more g.S.Read.remaining (places_of c.args.self.now) items c.loop-place.place c.index_mut.result.now
-    c.progress_now.new.self within c.index_mut.ensures.value c.loop-place.invariant c.progress_now.ensures.read
-
-pub returns-in-Whole-clause-whole : goal.returns-in-Whole-clause-whole
-returns-in-Whole-clause-whole g c =
-    let items = c.loop-place.self.waiting.items in
-    let within : c.loop-place.place < length items = search rules in
-    whole_at place_of items c.loop-place.place c.progress_now.new.self true within
-    (λ told. subst (λ p. HasCome p c.progress_now.new.self.request) c.in-Whole.is c.progress_now.ensures.come)
-    (λ told. absurd (false≢true (sym told)))
+    read_once_more g.S.Read.remaining g.S.Connection.fails (places_of c.args.self.now) items c.loop-place.place
+    c.index_mut.result.now c.read.new.self within c.index_mut.ensures.value c.loop-place.invariant.0 c.read.ensures
 
 pub loop-place-preserved : goal.loop-place-preserved
 loop-place-preserved g c =
     let items = c.loop-place.self.waiting.items in
     let within : c.loop-place.place < length items = search rules in
-    read_once_more g.S.Read.remaining (places_of c.args.self.now) items c.loop-place.place c.index_mut.result.now
-    c.progress_now.new.self within c.index_mut.ensures.value c.loop-place.invariant c.progress_now.ensures.read
+    let unfinished : IsUnfinished c.read.new.self.request =
+    subst (λ w. IsUnfinished w.request)
+    (c.index.ensures ∙ get_or-set_same items c.loop-place.place c.read.new.self _ within)
+    (c.is_whole.ensures.unfinished c.if-is_whole.false) in (
+      read_once_more g.S.Read.remaining g.S.Connection.fails (places_of c.args.self.now) items c.loop-place.place
+          c.index_mut.result.now c.read.new.self within c.index_mut.ensures.value c.loop-place.invariant.0 c.read.ensures,
+      one_more_before items c.loop-place.place c.read.new.self within unfinished c.loop-place.invariant.1,
+    )
+
+pub returns-clause-whole : goal.returns-clause-whole
+returns-clause-whole g c =
+    let items = c.loop-place.self.waiting.items in
+    let end : length items ≤ c.loop-place.place = search rules in
+    none_before c.loop-place.place (places_of c.loop-place.self)
+    (omega (arith, end, length-map items place_of)) c.loop-place.invariant.1

@@ -1,6 +1,9 @@
 use Rattle.connections.specs.Places.{AreReadOn}
 use Rattle.connections.specs.Waiting.{places_of}
+use Rattle.connections.proofs.PlacesLemmas.{AreBefore}
 use Rattle.connections.proofs.places.Places.first_whole.Given as goal
 
 abbrev pub invariant-loop-place : goal.invariant-loop-place
-invariant-loop-place g l = AreReadOn g.S.Read.remaining (places_of l.initial.self) (places_of l.self)
+invariant-loop-place g l =
+    AreReadOn g.S.Read.remaining g.S.Connection.fails (places_of l.initial.self) (places_of l.self)
+    × AreBefore l.place (places_of l.self)

@@ -1,7 +1,7 @@
-use Rattle.connections.specs.Places.{IsReadOn, IsUnfinished}
+use Rattle.connections.specs.Places.{IsReadOn}
 use Rattle.connections.specs.Waiting.{place_of}
 use Rattle.connections.proofs.waiting.Waiting.read.Given as goal
 
 abbrev pub invariant-loop : goal.invariant-loop
 invariant-loop g l =
-    IsReadOn g.S.Read.remaining (place_of l.initial.self) (place_of l.self) × IsUnfinished l.self.request
+    IsReadOn g.S.Read.remaining g.S.Connection.fails (place_of l.initial.self) (place_of l.self)
