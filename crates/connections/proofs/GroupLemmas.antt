@@ -10,6 +10,7 @@ use Rattle.cms.specs.declared.signer.SignerFault.{SignerFault}
 use Rattle.desk.specs.Batches.{Question}
 use Rattle.desk.specs.CallContract.{DeskValue}
 use Rattle.desk.specs.Command.{Answer}
+use Rattle.desk.specs.MachineRuns.{Told}
 use Rattle.desk.specs.Outcome.{Outcome}
 use Rattle.desk.specs.Together.{AreRejectedUnasked, IsAnsweredTogether}
 use Rattle.service.specs.Stamps.{AsksStamp}
@@ -167,11 +168,11 @@ module _ {L S B X : Type 0} (takes_back : L → S → Exchanged → L → Type 0
   pub none_answered : (old : Hall L (Unit {0}) B X) → All [] old old
   none_answered old = record { parts = []; are = refl; done = (refl, refl); back = refl }
 
-  pub one_answered : (a : Answered S) (old new : Hall L (Unit {0}) B X)
-      → IsAlone contents g signs count a old.others.desk old.others.signer new.others.desk new.others.signer
+  pub one_answered : (a : Answered S) (steps : List Told) (old new : Hall L (Unit {0}) B X)
+      → IsAlone contents g signs count a steps old.others.desk old.others.signer new.others.desk new.others.signer
       → takes_back old.hearing a.stream_after a.exchanged new.hearing → All (a.handed ∷ []) old new
-  one_answered a old new done back = record {
-    parts = alone a ∷ [];
+  one_answered a steps old new done back = record {
+    parts = alone a steps ∷ [];
     are = refl;
     done = record { desk = new.others.desk; signer = new.others.signer; first = done; rest = (refl, refl) };
     back = (new.hearing, (back, refl));

@@ -67,7 +67,7 @@ module _ {S B X : Type 0} (contents : S → Option (List ℕ)) (g : Ghosts B)
   pub done_setting : (parts : List (Part S)) (old : DeskValue B) (x : X) (new : DeskValue B) (y : X)
       → Done parts old x new y → new.setting ≡ old.setting
   done_setting [] old x new y done = ap (λ d. d.setting) done.0
-  done_setting (alone a ∷ parts) old x new y done =
+  done_setting (alone a steps ∷ parts) old x new y done =
       done_setting parts done.desk done.signer new y done.rest ∙ done.first.setting
   done_setting (together members ∷ parts) old x new y done =
       done_setting parts done.desk done.signer new y done.rest ∙ done.first.setting
@@ -75,7 +75,7 @@ module _ {S B X : Type 0} (contents : S → Option (List ℕ)) (g : Ghosts B)
   pub done_honest : (parts : List (Part S)) (old : DeskValue B) (x : X) (new : DeskValue B) (y : X)
       → Done parts old x new y → g.honest new.store → g.honest old.store
   done_honest [] old x new y done honest = subst (λ d. g.honest d.store) done.0 honest
-  done_honest (alone a ∷ parts) old x new y done honest =
+  done_honest (alone a steps ∷ parts) old x new y done honest =
       done.first.honest (done_honest parts done.desk done.signer new y done.rest honest)
   done_honest (together members ∷ parts) old x new y done honest =
       done.first.honest (done_honest parts done.desk done.signer new y done.rest honest)

@@ -7,12 +7,12 @@ use Rattle.book.specs.History.{History}
 use Rattle.book.specs.Readers.{Reader, Viewer}
 use Rattle.book.specs.Rights.{is_reader}
 use Rattle.book.specs.Sound.{IsSound}
-use Rattle.book.specs.Stands.{Stands}
+use Rattle.book.specs.Stands.{OnlyLooks, Stands}
 use Rattle.cms.specs.declared.signer.SignerFault.{SignerFault}
 use Rattle.policy.specs.Record.{PolicyValue}
 use Rattle.desk.specs.Batches.{Question, stamp_for, stamps_for}
 use Rattle.desk.specs.Command.{Setting, Command, Stamp, Begin, Finish, Abandon, Deposit, Show, Token, ListAll, Grant}
-use Rattle.desk.specs.Command.{Revoke, Calibrate, Hold, Succeed, Answer, Listed, setting_after}
+use Rattle.desk.specs.Command.{Revoke, Calibrate, Hold, Succeed, Answer, setting_after}
 use Rattle.desk.specs.Effects.{Effect}
 use Rattle.desk.specs.Agreement.{Agree}
 use Rattle.desk.specs.Laws.{AreMet, AreCommandsOf, Concerns, Continues, IsCommandOfOther, RunsAlike, StaysFor}
@@ -23,20 +23,15 @@ use Rattle.desk.specs.Readers.{rights_along}
 use Rattle.desk.specs.MachineRuns.{Told, Runs, Journey, HasProperties, IsProper, after}
 use Rattle.desk.specs.Serials.{given_along, AreInOrder}
 use Rattle.desk.specs.MachineStep.{HasEffect, IsMet, Moves}
-use Rattle.desk.specs.Together.{MayBeLeftTogether, RunsTogether}
+use Rattle.desk.specs.Together.{MayBeLeftTogether}
 use Rattle.desk.specs.Viewers.{viewer_in}
-use Rattle.desk.specs.CallContract.{DeskValue, IsStep, MayBeLeft, no_signer, with_signer}
+use Rattle.desk.specs.CallContract.{DeskValue, HasStepped, IsStep, MayBeLeft, no_signer, with_signer}
 use Rattle.desk.proofs.Whole.{continued}
-use Rattle.service.specs.Answers.{AnswerValue}
 use Rattle.service.specs.Requests.{IsRequest, Step}
-use Rattle.service.specs.Served.{Turn, IsAnswer, refuses, replies, turned_back, turns_back, looks, wants_early}
-use Rattle.service.specs.Served.{wants_list, Serves, Steps}
-use Rattle.service.specs.declared.served.Served.{Served}
-use Rattle.service.specs.declared.served.Served.TheVariants as served
-use Rattle.connections.specs.Parts.{Part, alone, together, AreDone}
-use Rattle.connections.specs.Run.{Batch, Stretch, in_turn, at_once, commands_in, commands_of, answers_of, all_outcomes}
-use Rattle.connections.specs.Run.{Arrives, MayBeLeftAlong, told, turn, told_for, told_in, stretches_along, IsRunAlong}
-use Rattle.connections.specs.Run.{ServesEach}
+use Rattle.service.specs.Served.{Turn, AreTaken, Steps}
+use Rattle.connections.specs.Parts.{Answered, Member, Part, alone, together, IsAlone, AreTogether, AreDone}
+use Rattle.connections.specs.Run.{commands_in, commands_of, answers_in, answers_of, all_outcomes, Arrives}
+use Rattle.connections.specs.Run.{MayBeLeftAlong, IsRunAlong, ServesEach}
 use Rattle.connections.specs.Turns.{State, untold, IsServedBy, StopsByClock}
 use Rattle.connections.specs.declared.clock.ClockFailed.{ClockFailed}
 use Rattle.connections.proofs.PartsLemmas.{done_honest}
@@ -53,116 +48,107 @@ met_anywhere s (c ∷ cs) (o ∷ os) b met =
 met_anywhere s [] os b met = tt
 met_anywhere s (c ∷ cs) [] b met = tt
 
--- a step of the desk, from a history for which the store stood
+-- a step of the desk
 record OneStep {B X : Type 0} (g : Ghosts B) (signs : X → List ℕ → Result (List ℕ) SignerFault → X → Type 0)
-    (s : Setting) (c : Command) (reply : Answer) (b : History) (old new : DeskValue B) (x x' : X) : Type 0 where
+    (count : X → ℕ) (s : Setting) (c : Command) (reply : Answer) (old new : DeskValue B) (x x' : X) : Type 0 where
   outcome : Outcome
-  effect : Effect
-  has : HasEffect s c outcome b effect
-  moves : Moves signs effect.asks outcome.signing x x'
-  says : reply ≡ effect.says
-  stands : Stands g (after effect b) new.store
-  left : (left : g.Left) → g.leaves new.store left → MayBeLeft g s c outcome b old.store effect left
-  promises : KeepsPromises s c outcome b effect
   setting : new.setting ≡ setting_after s c reply
+  steps : g.honest new.store → (b : History) → Stands g b old.store → IsMet c b
+      → HasStepped g (with_signer signs count x x') s c outcome b old.store new.store reply
+  promises : (honest : g.honest new.store) (b : History) (stood : Stands g b old.store) (met : IsMet c b)
+      → KeepsPromises s c outcome b (steps honest b stood met).effect
 
 module _ {B X : Type 0} (g : Ghosts B) (signs : X → List ℕ → Result (List ℕ) SignerFault → X → Type 0) (count : X → ℕ)
-    (old new : DeskValue B) (x x' : X) (b : History) (reply : Answer) (honest : g.honest new.store)
-    (stood : Stands g b old.store) where
-  signed : (c : Command) → IsStep g (with_signer signs count x x') c old new reply → IsMet c b
-      → OneStep g signs old.setting c reply b old new x x'
-  signed c step met =
-      let h = step.by.step.steps honest b stood met in
-      record {
-        outcome = step.outcome;
-        effect = h.effect;
-        has = h.has;
-        moves = h.moves;
-        says = h.says;
-        stands = h.stands;
-        left = h.left;
-        promises = step.by.promises honest b stood met;
-        setting = step.setting;
-      }
+    (old new : DeskValue B) (x x' : X) (reply : Answer) where
+  abbrev Stepped : Command → Type 0
+  Stepped c = OneStep g signs count old.setting c reply old new x x'
 
-  unsigned : (c : Command) → IsStep g no_signer c old new reply → x' ≡ x → IsMet c b
-      → OneStep g signs old.setting c reply b old new x x'
-  unsigned c step same met =
-      let h = step.by.step.steps honest b stood met in
-      let P : Option (List ℕ) → Type 0 = λ asked. Moves signs asked step.outcome.signing x x' in
-      record {
-        outcome = step.outcome;
-        effect = h.effect;
-        has = h.has;
-        moves = subst P (sym h.moves) same;
-        says = h.says;
-        stands = h.stands;
-        left = h.left;
-        promises = step.by.promises honest b stood met;
-        setting = step.setting;
-      }
+  signed : (c : Command) → IsStep g (with_signer signs count x x') c old new reply → Stepped c
+  signed c step = record {
+    outcome = step.outcome;
+    setting = step.setting;
+    steps = step.by.step.steps;
+    promises = step.by.promises;
+  }
 
-  one_step : (c : Command) → Steps g signs count old new x x' c reply → IsMet c b
-      → OneStep g signs old.setting c reply b old new x x'
-  one_step (Stamp account reading octets) t met = signed (Stamp account reading octets) t.0 met
-  one_step (Deposit a reading reference bytes) t met = signed (Deposit a reading reference bytes) t met
-  one_step (Begin account reading octets) t met = unsigned (Begin account reading octets) t.0 t.1 met
-  one_step (Finish p signature) t met = unsigned (Finish p signature) t.0 t.1 met
-  one_step (Abandon p) t met = unsigned (Abandon p) t.0 t.1 met
-  one_step (Show a n) t met = unsigned (Show a n) t.0 t.1 met
-  one_step (Token a n) t met = unsigned (Token a n) t.0 t.1 met
-  one_step (ListAll a) t met = unsigned (ListAll a) t.0 t.1 met
-  one_step (Grant a n reader) t met = unsigned (Grant a n reader) t.0 t.1 met
-  one_step (Revoke a n reader) t met = unsigned (Revoke a n reader) t.0 t.1 met
-  one_step (Calibrate c) t met = unsigned (Calibrate c) t.0 t.1 met
-  one_step (Hold h) t met = unsigned (Hold h) t.0 t.1 met
-  one_step (Succeed n) t met = unsigned (Succeed n) t.0 t.1 met
+  unsigned : (c : Command) → IsStep g no_signer c old new reply → x' ≡ x → Stepped c
+  unsigned c step same = record {
+    outcome = step.outcome;
+    setting = step.setting;
+    steps = λ honest b stood met.
+        let h = step.by.step.steps honest b stood met in
+        record {
+          effect = h.effect;
+          has = h.has;
+          says = h.says;
+          moves = subst (λ asked. Moves signs asked step.outcome.signing x x') (sym h.moves) same;
+          stands = h.stands;
+          left = h.left;
+        };
+    promises = step.by.promises;
+  }
+
+  one_step : (c : Command) → Steps g signs count old new x x' c reply → Stepped c
+  one_step (Stamp account reading octets) t = signed (Stamp account reading octets) t.0
+  one_step (Deposit a reading reference bytes) t = signed (Deposit a reading reference bytes) t
+  one_step (Begin account reading octets) t = unsigned (Begin account reading octets) t.0 t.1
+  one_step (Finish p signature) t = unsigned (Finish p signature) t.0 t.1
+  one_step (Abandon p) t = unsigned (Abandon p) t.0 t.1
+  one_step (Show a n) t = unsigned (Show a n) t.0 t.1
+  one_step (Token a n) t = unsigned (Token a n) t.0 t.1
+  one_step (ListAll a) t = unsigned (ListAll a) t.0 t.1
+  one_step (Grant a n reader) t = unsigned (Grant a n reader) t.0 t.1
+  one_step (Revoke a n reader) t = unsigned (Revoke a n reader) t.0 t.1
+  one_step (Calibrate c) t = unsigned (Calibrate c) t.0 t.1
+  one_step (Hold h) t = unsigned (Hold h) t.0 t.1
+  one_step (Succeed n) t = unsigned (Succeed n) t.0 t.1
 
 -- what is left after the first command and the others
-left_after : {B : Type 0} (g : Ghosts B) (s : Setting) (c : Command) (reply : Answer) (later : List Stretch)
-    (o : Outcome) (oss : List (List Outcome)) (e : Effect) (b last : History) (old mid : B) (left : g.Left)
-    → HasEffect s c o b e → (g.leaves mid left → MayBeLeft g s c o b old e left)
+left_after : {B : Type 0} (g : Ghosts B) (s : Setting) (a : Answered (Unit {0})) (step : Told)
+    (later : List (Part (Unit {0}))) (o : Outcome) (oss : List (List Outcome)) (e : Effect) (b last : History)
+    (old mid : B) (left : g.Left) → HasEffect s step.command o b e
+    → (g.leaves mid left → MayBeLeft g s step.command o b old e left)
     → MayBeLeftAlong g s later oss (after e b) mid last left
-    → MayBeLeftAlong g s (in_turn (told c reply) ∷ later) ((o ∷ []) ∷ oss) b old last left
-left_after g s c reply later o oss e b last old mid left has step (inl same) =
-    elim (step same.1) [
+    → MayBeLeftAlong g s (alone a (step ∷ []) ∷ later) ((o ∷ []) ∷ oss) b old last left
+left_after g s a step later o oss e b last old mid left has leaves (inl same) =
+    elim (leaves same.1) [
       | inl none ↦ inl (same.0 ∙ ap (λ added. added ++ b) none.0, none.1)
       | inr more ↦ elim more [
         | inl holds ↦ inr (inl (subst (λ y. g.holds left y) (sym same.0) holds))
         | inr doubt ↦ inr (inr (after e b, ((e, (has, refl)), inl (same.0, (e, (has, inl (refl, doubt)))))))
       ]
     ]
-left_after g s c reply later o oss e b last old mid left has step (inr (inl holds)) = inr (inl holds)
-left_after g s c reply later o oss e b last old mid left has step (inr (inr doubt)) =
+left_after g s a step later o oss e b last old mid left has leaves (inr (inl holds)) = inr (inl holds)
+left_after g s a step later o oss e b last old mid left has leaves (inr (inr doubt)) =
     inr (inr (after e b, ((e, (has, refl)), inr doubt)))
 
 -- what is left where a store leaves no more than another
-left_before : {B : Type 0} (g : Ghosts B) (s : Setting) (later : List Stretch) (oss : List (List Outcome))
-    (b last : History) (old mid : B) (left : g.Left) → (g.leaves mid left → g.leaves old left)
-    → MayBeLeftAlong g s later oss b mid last left
-    → MayBeLeftAlong g s (in_turn [] ∷ later) ([] ∷ oss) b old last left
-left_before g s later oss b last old mid left before (inl same) = inl (same.0, before same.1)
-left_before g s later oss b last old mid left before (inr (inl holds)) = inr (inl holds)
-left_before g s later oss b last old mid left before (inr (inr doubt)) = inr (inr (b, (refl, inr doubt)))
+left_before : {B : Type 0} (g : Ghosts B) (s : Setting) (a : Answered (Unit {0})) (later : List (Part (Unit {0})))
+    (oss : List (List Outcome)) (b last : History) (old mid : B) (left : g.Left)
+    → (g.leaves mid left → g.leaves old left) → MayBeLeftAlong g s later oss b mid last left
+    → MayBeLeftAlong g s (alone a [] ∷ later) ([] ∷ oss) b old last left
+left_before g s a later oss b last old mid left before (inl same) = inl (same.0, before same.1)
+left_before g s a later oss b last old mid left before (inr (inl holds)) = inr (inl holds)
+left_before g s a later oss b last old mid left before (inr (inr doubt)) = inr (inr (b, (refl, inr doubt)))
 
 -- what is left after stamps together and the others
-left_together : {B : Type 0} (g : Ghosts B) (s : Setting) (batch : Batch) (later : List Stretch)
-    (oss : List (List Outcome)) (b mid last : History) (old between : B) (left : g.Left)
-    → Arrives s (stamps_for batch.asked) batch.outcomes b mid
-    → (g.leaves between left
-    → MayBeLeftTogether g s batch.asked batch.outcomes batch.answers b old mid left)
+left_together : {B : Type 0} (g : Ghosts B) (s : Setting) (members : List (Member (Unit {0})))
+    (later : List (Part (Unit {0}))) (os : List Outcome) (oss : List (List Outcome)) (b mid last : History)
+    (old between : B) (left : g.Left) → Arrives s (commands_in (together members)) os b mid
+    → (g.leaves between left → MayBeLeftTogether g s (map (λ m. m.question) members) os (answers_in (together members))
+    b old mid left)
     → MayBeLeftAlong g s later oss mid between last left
-    → MayBeLeftAlong g s (at_once batch ∷ later) (batch.outcomes ∷ oss) b old last left
-left_together g s batch later oss b mid last old between left arrives batch_leaves (inl same) =
-    elim (batch_leaves same.1) [
+    → MayBeLeftAlong g s (together members ∷ later) (os ∷ oss) b old last left
+left_together g s members later os oss b mid last old between left arrives leaves (inl same) =
+    elim (leaves same.1) [
       | inl none ↦ inl (same.0 ∙ none.0, none.1)
       | inr more ↦ elim more [
         | inl holds ↦ inr (inl (subst (λ y. g.holds left y) (sym same.0) holds))
         | inr doubt ↦ inr (inr (mid, (arrives, inl (same.0, doubt))))
       ]
     ]
-left_together g s batch later oss b mid last old between left arrives batch_leaves (inr (inl holds)) = inr (inl holds)
-left_together g s batch later oss b mid last old between left arrives batch_leaves (inr (inr doubt)) =
+left_together g s members later os oss b mid last old between left arrives leaves (inr (inl holds)) = inr (inl holds)
+left_together g s members later os oss b mid last old between left arrives leaves (inr (inr doubt)) =
     inr (inr (mid, (arrives, inr doubt)))
 
 -- what a command leaves of what an account may know, and what the others leave
@@ -334,264 +320,252 @@ module _ {B X : Type 0} (g : Ghosts B) (signs : X → List ℕ → Result (List 
     abbrev Done : List (Part (Unit {0})) → DeskValue B → X → DeskValue B → X → Type 0
     Done = AreDone untold g signs count
 
-    abbrev Along : (parts : List (Part (Unit {0}))) (old : DeskValue B) (x : X) (new : DeskValue B) (y : X)
-        → Done parts old x new y → List Stretch
-    Along = stretches_along g signs count
+    abbrev turn : Answered (Unit {0}) → DeskValue B → X → DeskValue B → X → Turn (Unit {0}) B X
+    turn a old x new y = record {
+      input = None;
+      input_after = None;
+      writer = a.handed.stream;
+      writer_after = a.stream_after;
+      desk = old;
+      desk_after = new;
+      signer = x;
+      signer_after = y;
+    }
+
+    taken : (a : Answered (Unit {0})) (steps : List Told) (old : DeskValue B) (x : X) (new : DeskValue B) (y : X)
+        → IsAlone untold g signs count a steps old x new y
+        → AreTaken g signs count a.handed.reading (turn a old x new y) steps
+    taken a steps old x new y done = (done.serves None None tt (λ ended taken. tt)).taken
 
     -- what was told is met
-    module _ (law : AsksForMet) (cs : List Command) (rest : AreMetAnywhere cs) where
-      met_for : (reading : ℤ) (t : Turn (Unit {0}) B X) (a : AnswerValue) (is : IsAnswer g signs count reading t a)
-          → AreMetAnywhere (commands_in (in_turn (told_for g signs count is)) ++ cs)
-      met_for reading t a (refuses r read i is) = rest
-      met_for reading t a (replies c read reply takes is) = (law _ _ _ _ c read, rest)
-      met_for reading t a (turns_back c read takes behind is) = (law _ _ _ _ (Calibrate c) read, rest)
-      met_for reading t a (looks r read l reports) = rest
-      met_for reading t a (wants_early early i is) = rest
-      met_for reading t a (wants_list account read rows some takes is) = (λ b. tt, rest)
-
-      met_in : (reading : ℤ) (t : Turn (Unit {0}) B X) (outcome : Served)
-          (s : Serves g signs count untold reading t outcome)
-          → AreMetAnywhere (commands_in (in_turn (told_in g signs count reading t outcome s)) ++ cs)
-      met_in reading t served.Closed s = rest
-      met_in reading t served.ReadFailed s = rest
-      met_in reading t (served.Answered status) (inl w) = met_for reading t w.answer w.is
-      met_in reading t (served.Answered status) (inr e) = rest
-      met_in reading t (served.WriteFailed status taken) (inl w) = met_for reading t w.answer w.is
-      met_in reading t (served.WriteFailed status taken) (inr e) = rest
+    met_steps : AsksForMet → (reading : ℤ) (t : Turn (Unit {0}) B X) (steps : List Told)
+        → AreTaken g signs count reading t steps → (cs : List Command) → AreMetAnywhere cs
+        → AreMetAnywhere (map (λ step. step.command) steps ++ cs)
+    met_steps law reading t [] taken cs rest = rest
+    met_steps law reading t (step ∷ []) taken cs rest = (law _ _ _ _ step.command taken.0, rest)
+    met_steps law reading t (step ∷ other ∷ more) taken cs rest = absurd taken
 
     met_along : AsksForMet → (parts : List (Part (Unit {0}))) (old : DeskValue B) (x : X) (new : DeskValue B) (y : X)
-        (done : Done parts old x new y) → AreMetAnywhere (commands_of (Along parts old x new y done))
+        → Done parts old x new y → AreMetAnywhere (commands_of parts)
     met_along law [] old x new y done = tt
-    met_along law (alone a ∷ parts) old x new y done =
-        met_in law (commands_of (Along parts done.desk done.signer new y done.rest))
-        (met_along law parts done.desk done.signer new y done.rest) a.handed.reading
-        (turn g signs count old x done.desk done.signer) a.exchanged.served (done.first.serves None None tt (λ ended taken. tt))
+    met_along law (alone a steps ∷ parts) old x new y done =
+        met_steps law a.handed.reading (turn a old x done.desk done.signer) steps
+        (taken a steps old x done.desk done.signer done.first) (commands_of parts)
+        (met_along law parts done.desk done.signer new y done.rest)
     met_along law (together members ∷ parts) old x new y done =
-        met_stamps (map (λ m. m.question) members) (commands_of (Along parts done.desk done.signer new y done.rest))
+        met_stamps (map (λ m. m.question) members) (commands_of parts)
         (met_along law parts done.desk done.signer new y done.rest)
 
-    -- where what was told leads, from a history that the store stood for
-    record Reaches (s : Setting) (all : List Stretch) (b : History) (old : B) (x : X) (new : DeskValue B) (y : X) : Type 0
+    -- where parts lead under these outcomes, from a history that the store stood for
+    record Reaches (s : Setting) (all : List (Part (Unit {0}))) (outcomes : List (List Outcome)) (b : History) (old : B)
+        (x : X) (new : DeskValue B) (y : X) : Type 0 where
+      history : History
+      runs : Runs signs s (commands_of all) (all_outcomes outcomes) b x (answers_of all) history y
+      stands : Stands g history new.store
+      left : (left : g.Left) → g.leaves new.store left → MayBeLeftAlong g s all outcomes b old history left
+      ends : (w : List Told) → Continues s (commands_of all) (all_outcomes outcomes) b w history (Some new.setting)
+          (ran.told_by (commands_of all) (answers_of all) w)
+      promises : ran.ArePromised s (commands_of all) (all_outcomes outcomes) (answers_of all) b
+      undisturbed : (account : List ℕ) → ran.AreCommandsOfOthers account (commands_of all)
+          → StaysFor (viewer_in s.file account) (λ number. ran.OneConcerns number (commands_of all)) b history
+
+    -- and from each of these
+    record Leads (s : Setting) (all : List (Part (Unit {0}))) (old : B) (x : X) (new : DeskValue B) (y : X) : Type 0
       where
         outcomes : List (List Outcome)
-        history : History
-        runs : Runs signs s (commands_of all) (all_outcomes outcomes) b x (answers_of all) history y
-        stands : Stands g history new.store
-        left : (left : g.Left) → g.leaves new.store left → MayBeLeftAlong g s all outcomes b old history left
-        ends : (w : List Told) → Continues s (commands_of all) (all_outcomes outcomes) b w history (Some new.setting)
-            (ran.told_by (commands_of all) (answers_of all) w)
-        promises : ran.ArePromised s (commands_of all) (all_outcomes outcomes) (answers_of all) b
-        undisturbed : (account : List ℕ) → ran.AreCommandsOfOthers account (commands_of all)
-            → StaysFor (viewer_in s.file account) (λ number. ran.OneConcerns number (commands_of all)) b history
-
-    module _ (disturb : DisturbLittle) (old next : DeskValue B) (x z : X) (new : DeskValue B) (y : X)
-        (setting : next.setting ≡ old.setting) (honest : g.honest next.store) (later : List Stretch)
-        (follows : (b : History) → Stands g b next.store → AreMetAnywhere (commands_of later)
-        → Reaches next.setting later b next.store z new y) (b : History) (stood : Stands g b old.store) where
-      stays : Stands g b next.store → z ≡ x → ((left : g.Left) → g.leaves next.store left → g.leaves old.store left)
-          → AreMetAnywhere (commands_of later) → Reaches old.setting (in_turn [] ∷ later) b old.store x new y
-      stays stands same before met =
-          let P : X → Type 0 = λ u. Reaches next.setting later b next.store u new y in
-          let Q : Setting → Type 0 = λ s. Reaches s later b next.store x new y in
-          let r = subst Q setting (subst P same (follows b stands met)) in
-          record {
-            outcomes = [] ∷ r.outcomes;
-            history = r.history;
-            runs = r.runs;
-            stands = r.stands;
-            left = λ left k. left_before g old.setting later r.outcomes b r.history old.store next.store left
-                (before left) (r.left left k);
-            ends = r.ends;
-            promises = r.promises;
-            undisturbed = r.undisturbed;
-          }
-
-      idles : next ≡ old → z ≡ x → AreMetAnywhere (commands_of later)
-          → Reaches old.setting (in_turn [] ∷ later) b old.store x new y
-      idles desk same met =
-          stays (subst (λ d. Stands g b d.store) (sym desk) stood) same
-          (λ left k. subst (λ d. g.leaves d.store left) desk k) met
-
-      steps : (c : Command) (reply : Answer) → Steps g signs count old next x z c reply
-          → AreMetAnywhere (c ∷ commands_of later)
-          → Reaches old.setting (in_turn (told c reply) ∷ later) b old.store x new y
-      steps c reply takes met =
-          let h = one_step g signs count old next x z b reply honest stood c takes (met.0 b) in
-          let s = old.setting in
-          let t = setting_after s c h.effect.says in
-          let after_it : s ≡ t = sym setting ∙ (h.setting ∙ ap (setting_after s c) h.says) in
-          let Q : Setting → Type 0 = λ s. Reaches s later (after h.effect b) next.store z new y in
-          let r = subst Q setting (follows (after h.effect b) h.stands met.1) in
-          let cs = commands_of later in
-          let os = all_outcomes r.outcomes in
-          let says = answers_of later in
-          record {
-            outcomes = (h.outcome ∷ []) ∷ r.outcomes;
-            history = r.history;
-            runs = (
-              h.effect,
-              z,
-              (
-                h.has,
-                h.moves,
-                h.says,
-                subst (λ s. Runs signs s cs os (after h.effect b) z says r.history y) after_it r.runs,
-              ),
-            );
-            stands = r.stands;
-            left = λ left k. left_after g s c reply later h.outcome r.outcomes h.effect b r.history old.store next.store
-                left h.has (h.left left) (r.left left k);
-            ends = λ w. told_more s c cs h.outcome os b r.history (Some new.setting) w h.effect reply says h.has h.says
-                (λ w. subst (λ s. Continues s cs os (after h.effect b) w r.history (Some new.setting)
-                (ran.told_by cs says w)) after_it (r.ends w));
-            promises = (
-              h.effect,
-              (
-                h.has,
-                h.says,
-                h.promises,
-                subst (λ s. ran.ArePromised s cs os says (after h.effect b)) after_it r.promises,
-              ),
-            );
-            undisturbed = λ account others. stays_on (viewer_in s.file account) c cs b (after h.effect b) r.history
-                (disturb account s c h.outcome b h.effect stood.sound others.0 h.has) (r.undisturbed account others.1);
-          }
-
-      batches : OneEffect → (batch : Batch)
-          → RunsTogether g signs old.setting batch.asked batch.outcomes batch.answers b old.store x next.store z
-          → AreMetAnywhere (commands_of later) → Reaches old.setting (at_once batch ∷ later) b old.store x new y
-      batches one batch t met =
-          let s = old.setting in
-          let Q : Setting → Type 0 = λ s. Reaches s later t.history next.store z new y in
-          let r = subst Q setting (follows t.history t.stands met) in
-          let cs = commands_of later in
-          let us = all_outcomes r.outcomes in
-          let more = answers_of later in
-          record {
-            outcomes = batch.outcomes ∷ r.outcomes;
-            history = r.history;
-            runs = runs_then signs s cs us more r.history batch.asked batch.outcomes b x batch.answers t.history z y t.runs
-                r.runs;
-            stands = r.stands;
-            left = λ left k. left_together g s batch later r.outcomes b t.history r.history old.store next.store left
-                (arrives signs s batch.asked batch.outcomes b x batch.answers t.history z t.runs) (t.left left)
-                (r.left left k);
-            ends = λ w. ends_then signs s cs us more r.history (Some new.setting) batch.asked batch.outcomes b x
-                batch.answers t.history z w t.runs r.ends;
-            promises = promises_then signs s cs us more r.history one batch.asked batch.outcomes b x batch.answers
-                t.history z t.runs t.promises r.promises;
-            undisturbed = λ account others. undisturbed_then signs s cs us more r.history one account batch.asked
-                batch.outcomes b x batch.answers t.history z t.runs t.promises (r.undisturbed account) others;
-          }
-
-      answers : (reading : ℤ) (a : AnswerValue) (is : IsAnswer g signs count reading (turn g signs count old x next z) a)
-          → AreMetAnywhere (commands_in (in_turn (told_for g signs count is)) ++ commands_of later)
-          → Reaches old.setting (in_turn (told_for g signs count is) ∷ later) b old.store x new y
-      answers reading a (refuses r reads i is) met = idles i.desk i.signer met
-      answers reading a (replies c reads reply takes is) met = steps c reply takes met
-      answers reading a (turns_back c reads takes behind is) met = steps (Calibrate c) turned_back takes met
-      answers reading a (looks r reads l reports) met =
-          stays (l.store.stands b stood) l.signer (λ left k. l.store.leaves honest left k) met
-      answers reading a (wants_early early i is) met = idles i.desk i.signer met
-      answers reading a (wants_list account reads rows some takes is) met = steps (ListAll account) (Listed rows) takes met
-
-      serves : (reading : ℤ) (outcome : Served)
-          (s : Serves g signs count untold reading (turn g signs count old x next z) outcome)
-          → AreMetAnywhere (commands_in (in_turn (told_in g signs count reading (turn g signs count old x next z) outcome
-          s)) ++ commands_of later)
-          → Reaches old.setting
-          (in_turn (told_in g signs count reading (turn g signs count old x next z) outcome s) ∷ later) b old.store x new y
-      serves reading served.Closed s met = idles s.2.idle.desk s.2.idle.signer met
-      serves reading served.ReadFailed s met = idles s.1.idle.desk s.1.idle.signer met
-      serves reading (served.Answered status) (inl w) met = answers reading w.answer w.is met
-      serves reading (served.Answered status) (inr e) met =
-          stays (e.look.store.stands b stood) e.look.signer (λ left k. e.look.store.leaves honest left k) met
-      serves reading (served.WriteFailed status taken) (inl w) met = answers reading w.answer w.is met
-      serves reading (served.WriteFailed status taken) (inr e) met =
-          stays (e.look.store.stands b stood) e.look.signer (λ left k. e.look.store.leaves honest left k) met
+        reaches : g.honest new.store → (b : History) → Stands g b old → AreMetAnywhere (commands_of all)
+            → Reaches s all outcomes b old x new y
 
     -- the commands behind stamps are met where all are
     met_behind : (asked : List Question) (cs : List Command) → AreMetAnywhere (stamps_for asked ++ cs) → AreMetAnywhere cs
     met_behind [] cs met = met
     met_behind (a ∷ asked) cs met = met_behind asked cs met.1
 
-    run_along : DisturbLittle → OneEffect → (parts : List (Part (Unit {0}))) (old : DeskValue B) (x : X)
-        (new : DeskValue B) (y : X) (done : Done parts old x new y) → g.honest new.store → (b : History)
-        → Stands g b old.store → AreMetAnywhere (commands_of (Along parts old x new y done))
-        → Reaches old.setting (Along parts old x new y done) b old.store x new y
-    run_along disturb one [] old x new y done honest b stood met = record {
+    module _ (disturb : DisturbLittle) (old next : DeskValue B) (x z : X) (new : DeskValue B) (y : X)
+        (setting : next.setting ≡ old.setting) (before : g.honest new.store → g.honest next.store)
+        (later : List (Part (Unit {0}))) (rest : Leads next.setting later next.store z new y) where
+      rests : (a : Answered (Unit {0})) → OnlyLooks g old.store next.store → z ≡ x
+          → Leads old.setting (alone a [] ∷ later) old.store x new y
+      rests a looks same = record {
+        outcomes = [] ∷ rest.outcomes;
+        reaches = λ honest b stood met.
+            let P : X → Type 0 = λ u. Reaches next.setting later rest.outcomes b next.store u new y in
+            let Q : Setting → Type 0 = λ s. Reaches s later rest.outcomes b next.store x new y in
+            let r = subst Q setting (subst P same (rest.reaches honest b (looks.stands b stood) met)) in
+            record {
+              history = r.history;
+              runs = r.runs;
+              stands = r.stands;
+              left = λ left k. left_before g old.setting a later rest.outcomes b r.history old.store next.store left
+                  (looks.leaves (before honest) left) (r.left left k);
+              ends = r.ends;
+              promises = r.promises;
+              undisturbed = r.undisturbed;
+            };
+      }
+
+      steps : (a : Answered (Unit {0})) (step : Told) → Steps g signs count old next x z step.command step.answer
+          → Leads old.setting (alone a (step ∷ []) ∷ later) old.store x new y
+      steps a step takes =
+          let c = step.command in
+          let one = one_step g signs count old next x z step.answer c takes in
+          let s = old.setting in
+          let cs = commands_of later in
+          let os = all_outcomes rest.outcomes in
+          let says = answers_of later in
+          record {
+            outcomes = (one.outcome ∷ []) ∷ rest.outcomes;
+            reaches = λ honest b stood met.
+                let h = one.steps (before honest) b stood (met.0 b) in
+                let mid = after h.effect b in
+                let after_it : s ≡ setting_after s c h.effect.says =
+                sym setting ∙ (one.setting ∙ ap (setting_after s c) h.says) in
+                let Q : Setting → Type 0 = λ s. Reaches s later rest.outcomes mid next.store z new y in
+                let r = subst Q setting (rest.reaches honest mid h.stands met.1) in
+                record {
+                  history = r.history;
+                  runs = (
+                    h.effect,
+                    z,
+                    (
+                      h.has,
+                      h.moves,
+                      h.says,
+                      subst (λ s. Runs signs s cs os mid z says r.history y) after_it r.runs,
+                    ),
+                  );
+                  stands = r.stands;
+                  left = λ left k. left_after g s a step later one.outcome rest.outcomes h.effect b r.history old.store
+                      next.store left h.has (h.left left) (r.left left k);
+                  ends = λ w. told_more s c cs one.outcome os b r.history (Some new.setting) w h.effect step.answer says
+                      h.has h.says (λ w. subst (λ s. Continues s cs os mid w r.history (Some new.setting)
+                      (ran.told_by cs says w)) after_it (r.ends w));
+                  promises = (
+                    h.effect,
+                    (
+                      h.has,
+                      h.says,
+                      one.promises (before honest) b stood (met.0 b),
+                      subst (λ s. ran.ArePromised s cs os says mid) after_it r.promises,
+                    ),
+                  );
+                  undisturbed = λ account others. stays_on (viewer_in s.file account) c cs b mid r.history
+                      (disturb account s c one.outcome b h.effect stood.sound others.0 h.has)
+                      (r.undisturbed account others.1);
+                };
+          }
+
+      goes : (a : Answered (Unit {0})) (all : List Told)
+          → AreTaken g signs count a.handed.reading (turn a old x next z) all
+          → Leads old.setting (alone a all ∷ later) old.store x new y
+      goes a [] taken = rests a taken.0 taken.1
+      goes a (step ∷ []) taken = steps a step taken.1
+      goes a (step ∷ other ∷ more) taken = absurd taken
+
+      batches : OneEffect → (members : List (Member (Unit {0})))
+          → AreTogether untold g signs count members old x next z
+          → Leads old.setting (together members ∷ later) old.store x new y
+      batches one members done =
+          let s = old.setting in
+          let asked = map (λ m. m.question) members in
+          let answers = map (λ m. m.reply) members in
+          let os = done.answered.outcomes in
+          let cs = commands_of later in
+          let us = all_outcomes rest.outcomes in
+          let more = answers_of later in
+          record {
+            outcomes = os ∷ rest.outcomes;
+            reaches = λ honest b stood met.
+                let t = done.answered.run (before honest) b stood in
+                let Q : Setting → Type 0 = λ s. Reaches s later rest.outcomes t.history next.store z new y in
+                let r = subst Q setting (rest.reaches honest t.history t.stands (met_behind asked cs met)) in
+                record {
+                  history = r.history;
+                  runs = runs_then signs s cs us more r.history asked os b x answers t.history z y t.runs r.runs;
+                  stands = r.stands;
+                  left = λ left k. left_together g s members later os rest.outcomes b t.history r.history old.store
+                      next.store left (arrives signs s asked os b x answers t.history z t.runs) (t.left left)
+                      (r.left left k);
+                  ends = λ w. ends_then signs s cs us more r.history (Some new.setting) asked os b x answers t.history
+                      z w t.runs r.ends;
+                  promises = promises_then signs s cs us more r.history one asked os b x answers t.history z t.runs
+                      t.promises r.promises;
+                  undisturbed = λ account others. undisturbed_then signs s cs us more r.history one account asked os b x
+                      answers t.history z t.runs t.promises (r.undisturbed account) others;
+                };
+          }
+
+    leads_along : DisturbLittle → OneEffect → (parts : List (Part (Unit {0}))) (old : DeskValue B) (x : X)
+        (new : DeskValue B) (y : X) → Done parts old x new y → Leads old.setting parts old.store x new y
+    leads_along disturb one [] old x new y done = record {
       outcomes = [];
-      history = b;
-      runs = (refl, done.1);
-      stands = subst (λ d. Stands g b d.store) (sym done.0) stood;
-      left = λ left k. inl (refl, subst (λ d. g.leaves d.store left) done.0 k);
-      ends = λ w. (refl, ap (λ d. Some d.setting) done.0, refl);
-      promises = tt;
-      undisturbed = λ account others. record {
-        own_stamps = refl;
-        own_deposits = refl;
-        seen = λ number free. refl;
-        calibration = refl;
-        holding = refl;
-        identity = refl;
+      reaches = λ honest b stood met. record {
+        history = b;
+        runs = (refl, done.1);
+        stands = subst (λ d. Stands g b d.store) (sym done.0) stood;
+        left = λ left k. inl (refl, subst (λ d. g.leaves d.store left) done.0 k);
+        ends = λ w. (refl, ap (λ d. Some d.setting) done.0, refl);
+        promises = tt;
+        undisturbed = λ account others. record {
+          own_stamps = refl;
+          own_deposits = refl;
+          seen = λ number free. refl;
+          calibration = refl;
+          holding = refl;
+          identity = refl;
+        };
       };
     }
-    run_along disturb one (alone a ∷ parts) old x new y done honest b stood met =
-        serves disturb old done.desk x done.signer new y done.first.setting
-        (done_honest untold g signs count parts done.desk done.signer new y done.rest honest)
-        (Along parts done.desk done.signer new y done.rest)
-        (run_along disturb one parts done.desk done.signer new y done.rest honest) b stood a.handed.reading a.exchanged.served
-        (done.first.serves None None tt (λ ended taken. tt)) met
-    run_along disturb one (together members ∷ parts) old x new y done honest b stood met =
-        let later = Along parts done.desk done.signer new y done.rest in
-        let before = done_honest untold g signs count parts done.desk done.signer new y done.rest honest in
-        let t = done.first.answered in
-        batches disturb old done.desk x done.signer new y done.first.setting before later
-        (run_along disturb one parts done.desk done.signer new y done.rest honest) b stood one (record {
-          asked = map (λ m. m.question) members;
-          answers = map (λ m. m.reply) members;
-          outcomes = t.outcomes;
-        }) (t.run before b stood) (met_behind (map (λ m. m.question) members) (commands_of later) met)
+    leads_along disturb one (alone a steps ∷ parts) old x new y done =
+        goes disturb old done.desk x done.signer new y done.first.setting
+        (done_honest untold g signs count parts done.desk done.signer new y done.rest) parts
+        (leads_along disturb one parts done.desk done.signer new y done.rest) a steps
+        (taken a steps old x done.desk done.signer done.first)
+    leads_along disturb one (together members ∷ parts) old x new y done =
+        batches disturb old done.desk x done.signer new y done.first.setting
+        (done_honest untold g signs count parts done.desk done.signer new y done.rest) parts
+        (leads_along disturb one parts done.desk done.signer new y done.rest) one members done.first
 
 module _ {C B X : Type 0} (reads : C → Result ℤ ClockFailed → C → Type 0) (g : Ghosts B)
     (signs : X → List ℕ → Result (List ℕ) SignerFault → X → Type 0) (count : X → ℕ) (laws : RunLaws signs) where
   is_run : (n : ℕ) (old new : State C B X) (served : IsServedBy reads g signs count n old new)
-      → IsProper old.desk.setting → IsRunAlong reads g signs count served
-  is_run n old new served proper honest b stood =
-      let all = stretches_along g signs count served.parts old.desk old.signer new.desk new.signer served.done in
+      → IsProper old.desk.setting → IsRunAlong g signs served.parts old new
+  is_run n old new served proper =
       let met = met_along g signs count laws.met served.parts old.desk old.signer new.desk new.signer served.done in
-      let r = run_along g signs count laws.undisturbed laws.one_effect served.parts old.desk old.signer new.desk
-      new.signer served.done honest b stood met in
+      let leads = leads_along g signs count laws.undisturbed laws.one_effect served.parts old.desk old.signer new.desk
+      new.signer served.done in
       let s = old.desk.setting in
-      let cs = commands_of all in
+      let cs = commands_of served.parts in
       record {
-        outcomes = r.outcomes;
-        run = record {
-          history = r.history;
-          runs = r.runs;
-          stands = r.stands;
-          left = r.left;
-          journeys = λ w journey os b' x' w' sees_to on.
-              let whole = continued s cs os b w b' x' w' sees_to journey on in
-              record {
-                journey = whole;
-                properties = laws.properties b' x' w' whole;
-                readers = laws.readers b' x' w';
-                given = laws.given b' x' w';
-              };
-          ends = r.ends;
-          promises = r.promises;
-          isolated = λ account own c sound agree.
-              laws.isolated account s cs (all_outcomes r.outcomes) b c old.signer (answers_of all) r.history new.signer
-              proper own stood.sound sound agree r.runs;
-          undisturbed = r.undisturbed;
-        };
-        met = λ os. met_anywhere s cs os b met;
+        outcomes = leads.outcomes;
+        run = λ honest b stood.
+            let r = leads.reaches honest b stood met in
+            record {
+              history = r.history;
+              runs = r.runs;
+              stands = r.stands;
+              left = r.left;
+              journeys = λ w journey os b' x' w' sees_to on.
+                  let whole = continued s cs os b w b' x' w' sees_to journey on in
+                  record {
+                    journey = whole;
+                    properties = laws.properties b' x' w' whole;
+                    readers = laws.readers b' x' w';
+                    given = laws.given b' x' w';
+                  };
+              ends = r.ends;
+              promises = r.promises;
+              isolated = λ account own c sound agree.
+                  laws.isolated account s cs (all_outcomes leads.outcomes) b c old.signer (answers_of served.parts)
+                  r.history new.signer proper own stood.sound sound agree r.runs;
+              undisturbed = r.undisturbed;
+            };
+        met = λ b os. met_anywhere s cs os b met;
       }
 
   pub served_run : (n : ℕ) (old new : State C B X) → IsServedBy reads g signs count n old new
       → IsProper old.desk.setting
-      → (served : IsServedBy reads g signs count n old new) × IsRunAlong reads g signs count served
+      → (served : IsServedBy reads g signs count n old new) × IsRunAlong g signs served.parts old new
   served_run n old new served proper = (served, is_run n old new served proper)
 
   pub stopped_run : {A : Type 0} (n : ℕ) (old new : State C B X)

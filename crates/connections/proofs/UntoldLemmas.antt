@@ -8,10 +8,11 @@ use Rattle.book.specs.declared.standing.Standing.{Ghosts}
 use Rattle.cms.specs.declared.signer.SignerFault.{SignerFault}
 use Rattle.desk.specs.Batches.{stamp_for}
 use Rattle.desk.specs.CallContract.{DeskValue}
+use Rattle.desk.specs.MachineRuns.{Told}
 use Rattle.desk.specs.Together.{IsAnsweredTogether}
 use Rattle.service.specs.Answers.{AnswerValue, answer_to}
-use Rattle.service.specs.Served.{Turn, IsIdle, IsSilent, IsLook, IsAnswer, refuses, replies, turns_back, looks}
-use Rattle.service.specs.Served.{wants_early, wants_list, Sends, SendsOctets, Writes, Extracts, Serves}
+use Rattle.service.specs.Served.{Turn, IsIdle, IsSilent, AreTaken, IsAnswerAlone, refuses, looks, wants_early, IsAnswer}
+use Rattle.service.specs.Served.{Sends, SendsOctets, Writes, Extracts, Ends, Serves}
 use Rattle.service.specs.declared.served.Served.{Served}
 use Rattle.service.specs.declared.served.Served.TheVariants as served
 use Rattle.connections.specs.Parts.{Answered, HandedValue, Member, Part, alone, together, answered_in, answered_along}
@@ -39,19 +40,25 @@ sends contents reading old new a (served.WriteFailed status taken) s = (s.0, s.1
 
 module _ {W B X : Type 0} (g : Ghosts B) (signs : X → List ℕ → Result (List ℕ) SignerFault → X → Type 0)
     (count : X → ℕ) (contents : W → Option (List ℕ)) (reading : ℤ) (t : Turn W B X) where
+  stepped : (steps : List Told) → AreTaken g signs count reading t steps
+      → AreTaken g signs count reading (without t) steps
+  stepped [] are = are
+  stepped (step ∷ []) are = are
+  stepped (step ∷ other ∷ more) are = are
+
   idle : IsIdle t → IsIdle (without t)
   idle i = record { desk = i.desk; signer = i.signer }
 
-  look : IsLook g signs count t → IsLook g signs count (without t)
-  look l = record { store = l.store; signer = l.signer }
+  alone_answer : (a : AnswerValue) → IsAnswerAlone g signs count reading t a
+      → IsAnswerAlone g signs count reading (without t) a
+  alone_answer a (refuses r reads i is) = refuses r reads (idle i) is
+  alone_answer a (looks r reads reports) = looks r reads reports
+  alone_answer a (wants_early early i is) = wants_early early (idle i) is
 
-  answer : (a : AnswerValue) → IsAnswer g signs count reading t a → IsAnswer g signs count reading (without t) a
-  answer a (refuses r reads i is) = refuses r reads (idle i) is
-  answer a (replies c reads reply takes is) = replies c reads reply takes is
-  answer a (turns_back x reads takes behind is) = turns_back x reads takes behind is
-  answer a (looks r reads l reports) = looks r reads (look l) reports
-  answer a (wants_early early i is) = wants_early early (idle i) is
-  answer a (wants_list account reads rows some takes is) = wants_list account reads rows some takes is
+  answer : (steps : List Told) (a : AnswerValue) → IsAnswer g signs count reading t steps a
+      → IsAnswer g signs count reading (without t) steps a
+  answer [] a is = alone_answer a is
+  answer (step ∷ more) a tells = tells
 
   sent : (a : AnswerValue) (outcome : Served) → Sends contents reading t.writer t.writer_after a outcome
       → Sends untold reading tt tt a outcome
@@ -64,9 +71,10 @@ module _ {W B X : Type 0} (g : Ghosts B) (signs : X → List ℕ → Result (Lis
   octets served.ReadFailed s = s
   octets (served.WriteFailed status taken) s = (s.0, s.1, s.2, tt)
 
-  writes : (outcome : Served) → Writes g signs count contents reading t outcome
-      → Writes g signs count untold reading (without t) outcome
-  writes outcome w = record { answer = w.answer; is = answer w.answer w.is; sent = sent w.answer outcome w.sent }
+  writes : (steps : List Told) (outcome : Served) → Writes g signs count contents reading t steps outcome
+      → Writes g signs count untold reading (without t) steps outcome
+  writes steps outcome w =
+      record { answer = w.answer; is = answer steps w.answer w.is; sent = sent w.answer outcome w.sent }
 
   extracts : (outcome : Served) → Extracts g signs count contents reading t outcome
       → Extracts g signs count untold reading (without t) outcome
@@ -76,7 +84,6 @@ module _ {W B X : Type 0} (g : Ghosts B) (signs : X → List ℕ → Result (Lis
     to = e.to;
     read = e.read;
     allowed = e.allowed;
-    look = look e.look;
     sent = λ honest b stands. sent _ outcome (e.sent honest b stands);
     told = octets outcome e.told;
   }
@@ -84,14 +91,19 @@ module _ {W B X : Type 0} (g : Ghosts B) (signs : X → List ℕ → Result (Lis
   silent : IsSilent t → IsSilent (without t)
   silent s = record { writer = refl; idle = idle s.idle }
 
-  pub serves : (outcome : Served) → Serves g signs count contents reading t outcome
-      → Serves g signs count untold reading (without t) outcome
-  serves served.Closed s = (s.0, s.1, silent s.2)
-  serves served.ReadFailed s = (s.0, silent s.1)
-  serves (served.Answered status) (inl w) = inl (writes (served.Answered status) w)
-  serves (served.Answered status) (inr e) = inr (extracts (served.Answered status) e)
-  serves (served.WriteFailed status taken) (inl w) = inl (writes (served.WriteFailed status taken) w)
-  serves (served.WriteFailed status taken) (inr e) = inr (extracts (served.WriteFailed status taken) e)
+  ends : (steps : List Told) (outcome : Served) → Ends g signs count contents reading t steps outcome
+      → Ends g signs count untold reading (without t) steps outcome
+  ends [] served.Closed s = (s.0, s.1, silent s.2)
+  ends [] served.ReadFailed s = (s.0, silent s.1)
+  ends [] (served.Answered status) (inl w) = inl (writes [] (served.Answered status) w)
+  ends [] (served.Answered status) (inr e) = inr (extracts (served.Answered status) e)
+  ends [] (served.WriteFailed status taken) (inl w) = inl (writes [] (served.WriteFailed status taken) w)
+  ends [] (served.WriteFailed status taken) (inr e) = inr (extracts (served.WriteFailed status taken) e)
+  ends (step ∷ more) outcome w = writes (step ∷ more) outcome w
+
+  pub serves : (steps : List Told) (outcome : Served) → Serves g signs count contents reading t steps outcome
+      → Serves g signs count untold reading (without t) steps outcome
+  serves steps outcome s = record { taken = stepped steps s.taken; ends = ends steps outcome s.ends }
 
 -- an answering, where nothing of its streams is told
 abbrev pub bare : {S : Type 0} → HandedValue S → HandedValue (Unit {0})
@@ -104,7 +116,7 @@ abbrev pub bare_member : {S : Type 0} → Member S → Member (Unit {0})
 bare_member m = record { answered = bare_answered m.answered; question = m.question; reply = m.reply }
 
 abbrev pub bare_part : {S : Type 0} → Part S → Part (Unit {0})
-bare_part (alone a) = alone (bare_answered a)
+bare_part (alone a steps) = alone (bare_answered a) steps
 bare_part (together members) = together (map bare_member members)
 
 -- the readings stay
@@ -123,7 +135,7 @@ member_readings (m ∷ members) = ap (λ rs. m.answered.handed.reading ∷ rs) (
 
 part_readings : {S : Type 0} (part : Part S)
     → readings (map (λ a. a.handed) (answered_in (bare_part part))) ≡ readings (map (λ a. a.handed) (answered_in part))
-part_readings (alone a) = refl
+part_readings (alone a steps) = refl
 part_readings (together members) = member_readings members
 
 pub bare_readings : {S : Type 0} (parts : List (Part S))
@@ -169,7 +181,7 @@ module _ {S B X : Type 0} (contents : S → Option (List ℕ)) (g : Ghosts B)
 
   bare_part_done : (part : Part S) (old : DeskValue B) (x : X) (new : DeskValue B) (y : X)
       → IsDone contents g signs count part old x new y → IsDone untold g signs count (bare_part part) old x new y
-  bare_part_done (alone a) old x new y done = record {
+  bare_part_done (alone a steps) old x new y done = record {
     setting = done.setting;
     honest = done.honest;
     serves = λ before after consumed ended. serves g signs count contents a.handed.reading (record {
@@ -181,7 +193,7 @@ module _ {S B X : Type 0} (contents : S → Option (List ℕ)) (g : Ghosts B)
       desk_after = new;
       signer = x;
       signer_after = y;
-    }) a.exchanged.served (done.serves before after consumed ended);
+    }) steps a.exchanged.served (done.serves before after consumed ended);
     all = done.all;
   }
   bare_part_done (together members) old x new y done =

@@ -9,6 +9,7 @@ use Rattle.cms.specs.declared.signer.SignerFault.{SignerFault}
 use Rattle.desk.specs.Batches.{Question, stamp_for}
 use Rattle.desk.specs.CallContract.{DeskValue}
 use Rattle.desk.specs.Command.{Answer}
+use Rattle.desk.specs.MachineRuns.{Told}
 use Rattle.desk.specs.Together.{IsAnsweredTogether}
 use Rattle.service.specs.Answers.{answer_to}
 use Rattle.service.specs.Received.{ReceivedValue, IsAll}
@@ -43,13 +44,13 @@ pub record Member (S : Type 0) : Type 0 where
   pub reply : Answer
 
 pub data Part (S : Type 0) : Type 0 where
-  -- one, which is served by itself
-  alone : Answered S → Part S
+  -- one, which is served by itself, and the steps that the desk took for it
+  alone : Answered S → List Told → Part S
   -- several, whose stamps are answered together
   together : List (Member S) → Part S
 
 abbrev pub answered_in : {S : Type 0} → Part S → List (Answered S)
-answered_in (alone a) = a ∷ []
+answered_in (alone a steps) = a ∷ []
 answered_in (together members) = map (λ m. m.answered) members
 
 abbrev pub answered_along : {S : Type 0} → List (Part S) → List (Answered S)
@@ -68,7 +69,8 @@ module _ {S B X : Type 0} (contents : S → Option (List ℕ)) (g : Ghosts B)
     (signs : X → List ℕ → Result (List ℕ) SignerFault → X → Type 0) (count : X → ℕ) where
   -- It is served as by `serve_one` from a reader of just the octets that came of it; of these, those of its request are
   -- taken. What is written goes to it.
-  pub record IsAlone (a : Answered S) (old : DeskValue B) (x : X) (new : DeskValue B) (y : X) : Type 0 where
+  pub record IsAlone (a : Answered S) (steps : List Told) (old : DeskValue B) (x : X) (new : DeskValue B) (y : X)
+      : Type 0 where
     pub setting : new.setting ≡ old.setting
     pub honest : g.honest new.store → g.honest old.store
     pub serves : (before after : Option (List ℕ))
@@ -84,7 +86,7 @@ module _ {S B X : Type 0} (contents : S → Option (List ℕ)) (g : Ghosts B)
           desk_after = new;
           signer = x;
           signer_after = y;
-        }) a.exchanged.served
+        }) steps a.exchanged.served
     pub all : TellsAll a
 
   -- By the octets that came of it, it asks for its stamp at its reading, and what is written to it is the answer with
@@ -107,7 +109,7 @@ module _ {S B X : Type 0} (contents : S → Option (List ℕ)) (g : Ghosts B)
           (map (λ m. m.reply) members) old.store x new.store y
 
   abbrev pub IsDone : Part S → DeskValue B → X → DeskValue B → X → Type 0
-  IsDone (alone a) old x new y = IsAlone a old x new y
+  IsDone (alone a steps) old x new y = IsAlone a steps old x new y
   IsDone (together members) old x new y = AreTogether members old x new y
 
   -- A part is done, and Rest holds of what it leaves of desk and signer.

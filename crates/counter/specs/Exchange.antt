@@ -2,6 +2,7 @@
 use Rattle.std.specs.Prelude.{◌≡◌, ◌⊎◌, pos, ℤ, ℕ, List, [], Option}
 use Rattle.std.specs.Io.KnownBytes.{Consumes, IsAtEnd, Keeps}
 use Rattle.policy.specs.Record.{PolicyValue}
+use Rattle.desk.specs.MachineRuns.{Told}
 use Rattle.service.specs.Answers.{AnswerValue, answer_text}
 use Rattle.service.specs.declared.served.Served.{Served}
 use Rattle.service.specs.declared.served.Served.TheVariants.{Closed, Answered, ReadFailed, WriteFailed}
@@ -61,8 +62,8 @@ pub record Exchanges {D X C S F O : Type 0} (m : Machine D X C Reading) (files :
   pub outcome : Served
   pub served : IsDoneOver m.disk m.held (λ g opened left.
       IsVisited g (setting_of read) (IsReached m.signer (algorithm_of read.signing)) IsAny opened left
-      (λ desk desk' signer signer'.
-      Serves g m.signer.signs m.signer.fault_count contents (pos words.reading) (record {
+      (λ desk desk' signer signer'. (steps : List Told)
+      × Serves g m.signer.signs m.signer.fault_count contents (pos words.reading) (record {
         input = input;
         input_after = input';
         writer = output;
@@ -71,6 +72,6 @@ pub record Exchanges {D X C S F O : Type 0} (m : Machine D X C Reading) (files :
         desk_after = desk';
         signer = signer;
         signer_after = signer';
-      }) outcome))
+      }) steps outcome))
   -- and then it is flushed, or its stream failed
   pub ends : Ends extent outcome (contents output_served) (contents output')

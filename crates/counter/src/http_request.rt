@@ -1,4 +1,6 @@
 //! One HTTP request, which is read and answered at a desk.
+ghost use Rattle.std.specs.Prelude.{List};
+ghost use Rattle.desk.specs.MachineRuns.{Told};
 ghost use Rattle.service.specs.Served.{Serves};
 ghost use Rattle.counter.specs.HttpRequest.{IsExchanged, turn_of};
 
@@ -30,8 +32,8 @@ impl<R: Read, W: Write> DeskOperation<R, W> for OneRequest {
     ghost answers = { λ exchange file reader reader' writer writer' served. IsExchanged file exchange.reading
         (R.remaining reader) (R.remaining reader') (W.contents writer) (W.contents writer') served };
 
-    ghost moves = { λ _ _ g signs exchange visit served. Serves g signs.signs signs.fault_count W.contents
-        exchange.reading (turn_of R.remaining visit) served };
+    ghost moves = { λ _ _ g signs exchange visit served. (steps : List Told) × Serves g signs.signs signs.fault_count
+        W.contents exchange.reading (turn_of R.remaining visit) steps served };
 
     fn prepare(&self) -> Result<(), OperationFault> {
         Ok(())

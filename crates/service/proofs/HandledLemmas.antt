@@ -1,14 +1,13 @@
 -- What handlers do, out of what their checks, the desk's calls and the answers that are written say.
-use Rattle.std.proofs.Common.{◌≡◌, ℕ, ℤ, Bool, true, false, List, [], ◌++◌, Option, Result, Ok, Err, ap, refl, subst}
+use Rattle.std.proofs.Common.{◌≡◌, ℕ, ℤ, Bool, true, false, List, [], ◌∷◌, ◌++◌, Option, Result, Ok, Err, ap, refl, subst}
 use Rattle.std.proofs.Common.{Vec}
 use Rattle.std.specs.declared.alloc.Global.{Global}
 use Rattle.std.specs.Fmt.{decimal}
 use Rattle.book.specs.declared.standing.Standing.{Ghosts}
-use Rattle.book.specs.Rights.{ListedValue}
 use Rattle.book.specs.Stands.{OnlyLooks}
 use Rattle.cms.specs.declared.signer.SignerFault.{SignerFault}
 use Rattle.desk.specs.Answers.{answered, reply_as}
-use Rattle.desk.specs.Command.{Command, Answer, Stamp, ListAll, Kept, Listed}
+use Rattle.desk.specs.Command.{Command, Answer, Stamp, Kept}
 use Rattle.desk.specs.Shown.{deposited_as, done_as, shown_as}
 use Rattle.desk.specs.CallContract.{DeskValue}
 use Rattle.desk.specs.declared.fault.Fault.{Fault}
@@ -16,17 +15,17 @@ use Rattle.desk.specs.declared.reply.Deposited.{Deposited}
 use Rattle.desk.specs.declared.reply.Reply.{Reply}
 use Rattle.desk.specs.declared.reply.Reply.TheVariants as reply
 use Rattle.policy.specs.Record.{AccountValue}
-use Rattle.service.specs.Answers.{AnswerValue, line_feed, media_shown, refusal_answer, success, unavailable}
+use Rattle.service.specs.Answers.{AnswerValue, line_feed, media_shown, refusal_answer, success}
 use Rattle.service.specs.ExtractAnswers.{ServesExtract}
 use Rattle.service.specs.Handlers.{AnswersReport, Handles}
 use Rattle.service.specs.Requests.{Asked, Report, Step, Look, Extract}
-use Rattle.service.specs.Served.{Sends, Steps, Tells, plainly, wants_list}
+use Rattle.service.specs.Served.{Sends, Steps, Tells, plainly}
 use Rattle.service.specs.Views.{done_answer, kept_answer, shown_answer, stamp_answer, status_kept}
 use Rattle.service.specs.declared.answer.Media.{Media}
 use Rattle.service.specs.declared.answer.Media.TheVariants as media
 use Rattle.service.specs.declared.refusal.Refusal.{Refusal}
 use Rattle.service.specs.declared.served.Served.{Served}
-use Rattle.service.proofs.ServingLemmas.{turn, sends, refusing, why_told, answering_auditor, reporting}
+use Rattle.service.proofs.ServingLemmas.{turn, sends, refusing, answering_auditor, reporting}
 
 module _ {W B X : Type 0} (g : Ghosts B) (signs : X → List ℕ → Result (List ℕ) SignerFault → X → Type 0) (count : X → ℕ)
     (contents : W → Option (List ℕ)) (reading : ℤ) (w w' : W) (d d' : DeskValue B) (x x' : X) (outcome : Served) where
@@ -39,39 +38,43 @@ module _ {W B X : Type 0} (g : Ghosts B) (signs : X → List ℕ → Result (Lis
 
   pub refused : (f : Refusal) → d' ≡ d → x' ≡ x → Sends contents reading w w' (refusal_answer f) outcome
       → Handled (Err f)
-  refused f desk signer sent = λ before after request.
-      refusing g signs count contents reading (turn before after w w' d d' x x') f outcome request
-      (record { desk = desk; signer = signer }) sent
+  refused f desk signer sent = (
+    [],
+    λ before after request.
+        refusing g signs count contents reading (turn before after w w' d d' x x') f outcome request
+        (record { desk = desk; signer = signer }) sent,
+  )
 
   pub told : (c : Command) (reply : Answer) (a : AnswerValue) → Steps g signs count d d' x x' c reply
       → Tells g signs count d d' c reply a → Sends contents reading w w' a outcome → Handled (Ok (Step c))
-  told c reply a steps tells sent = λ before after request.
-      let t = turn before after w w' d d' x x' in
-      sends g signs count contents reading t a outcome
-      (why_told g signs count contents reading t c request reply steps a tells) sent
-
-  pub list_wanted : (account : AccountValue) (rows : List ListedValue) → (rows ≡ [] → ⊥)
-      → Steps g signs count d d' x x' (ListAll account) (Listed rows)
-      → Sends contents reading w w' unavailable outcome → Handled (Ok (Step (ListAll account)))
-  list_wanted account rows some steps sent = λ before after request.
-      sends g signs count contents reading (turn before after w w' d d' x x') unavailable outcome
-      (wants_list account request rows some steps refl) sent
+  told c reply a takes tells sent = (
+    record { command = c; answer = reply } ∷ [],
+    λ before after request.
+        sends g signs count contents reading (turn before after w w' d d' x x')
+        (record { command = c; answer = reply } ∷ []) a outcome (request, takes) tells sent,
+  )
 
   pub extracted : (account : AccountValue) (from to : ℕ) → OnlyLooks g d.store d'.store → x' ≡ x
       → ServesExtract g contents reading w w' d.store d'.store d.setting.file account from to outcome
       → Handled (Ok (Look (Extract account from to)))
-  extracted account from to looks signer served = λ before after request.
-      answering_auditor g signs count contents reading (turn before after w w' d d' x x') account from to outcome
-      request (record { store = looks; signer = signer }) served
+  extracted account from to looks signer served = (
+    [],
+    λ before after request.
+        answering_auditor g signs count contents reading (turn before after w w' d d' x x') account from to outcome
+        request (looks, signer) served,
+  )
 
   -- a report that a look gives
   pub reported : (report : Report) (octets : Option ℕ) → OnlyLooks g d.store d'.store → x' ≡ x
       → AnswersReport g contents (record { reading = reading; faults = count x'; octets = octets }) w w' d d' report
       outcome
       → Handled (Ok (Look report))
-  reported report octets looks signer told = λ before after request.
-      reporting g signs count contents reading (turn before after w w' d d' x x') report told.0 outcome request
-      (record { store = looks; signer = signer }) (octets, told.1) told.2
+  reported report octets looks signer told = (
+    [],
+    λ before after request.
+        reporting g signs count contents reading (turn before after w w' d d' x x') report told.0 outcome request
+        (looks, signer) (octets, told.1) told.2,
+  )
 
 module _ {B X : Type 0} (g : Ghosts B) (signs : X → List ℕ → Result (List ℕ) SignerFault → X → Type 0) (count : X → ℕ)
     (old new : DeskValue B) where

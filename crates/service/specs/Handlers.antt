@@ -3,6 +3,7 @@ use Rattle.std.specs.Prelude.{ℕ, ℤ, List, Option, Result}
 use Rattle.book.specs.declared.standing.Standing.{Ghosts}
 use Rattle.cms.specs.declared.signer.SignerFault.{SignerFault}
 use Rattle.desk.specs.CallContract.{DeskValue}
+use Rattle.desk.specs.MachineRuns.{Told}
 use Rattle.service.specs.Heads.{HeadValue}
 use Rattle.service.specs.Answers.{AnswerValue}
 use Rattle.service.specs.Reports.{Reports, Seen}
@@ -28,7 +29,7 @@ module _ {W B X : Type 0} (g : Ghosts B) (signs : X → List ℕ → Result (Lis
   -- what is served of an input from which a request was read that asks for this
   abbrev pub Handles : ℤ → Result Asked Refusal → W → W → DeskValue B → DeskValue B → X → X → Served → Type 0
   Handles reading asked w w' d d' x x' outcome =
-      (before after : Option (List ℕ)) → IsRequest d.setting.file reading before after asked
+      (steps : List Told) × ((before after : Option (List ℕ)) → IsRequest d.setting.file reading before after asked
       → Serves g signs count contents reading (record {
         input = before;
         input_after = after;
@@ -38,4 +39,4 @@ module _ {W B X : Type 0} (g : Ghosts B) (signs : X → List ℕ → Result (Lis
         desk_after = d';
         signer = x;
         signer_after = x';
-      }) outcome
+      }) steps outcome)

@@ -1,5 +1,5 @@
 -- What `serve_one` does: it reads one request, has the desk take the one step that it asks for, and writes one answer.
-use Rattle.std.specs.Prelude.{◌≡◌, ◌⊎◌, ℕ, ◌<◌, ℤ, List, [], length, take, Option, Result, Ok, Err}
+use Rattle.std.specs.Prelude.{◌≡◌, ◌⊎◌, ℕ, ◌<◌, ℤ, List, [], ◌∷◌, length, take, Option, Result, Ok, Err}
 use Rattle.std.specs.Io.KnownBytes.{Appends, Consumes, IsAtEnd}
 use Rattle.book.specs.declared.standing.Standing.{Ghosts}
 use Rattle.cms.specs.declared.signer.SignerFault.{SignerFault}
@@ -13,6 +13,7 @@ use Rattle.book.specs.Rights.{ListedValue}
 use Rattle.desk.specs.Command.{Command, Stamp, Deposit, ListAll, Calibrate, Answer, Listed, Rejected, Refused}
 use Rattle.desk.specs.declared.fault.Fault.TheVariants as fault
 use Rattle.desk.specs.Findings.{HoldsUnasked}
+use Rattle.desk.specs.MachineRuns.{Told}
 use Rattle.desk.specs.CallContract.{DeskValue, IsStep, no_signer, with_signer}
 use Rattle.audit.specs.Auditor.{IsAllowed}
 use Rattle.audit.specs.Failures.{HasFailed}
@@ -114,16 +115,22 @@ module _ {B X : Type 0} (g : Ghosts B) (signs : X → List ℕ → Result (List 
   IsBackwardsFor old new c =
       g.honest new.store → (b : History) → Stands g b old.store → IsBackwards c (latest_calibration b)
 
-  -- the answer to a command that tells the desk's reply
+  -- the answer that tells the desk's reply to a command
   pub data Tells (old new : DeskValue B) (c : Command) (reply : Answer) (a : AnswerValue) : Type 0 where
     plainly : a ≡ answer_to c reply → Tells old new c reply a
+    -- a calibration that is before the latest; the desk's reply says that the store refused it
     backwards : (x : CalibrationValue) → c ≡ Calibrate x → reply ≡ turned_back → IsBackwardsFor old new x
         → a ≡ refusal_answer refusal.Backwards → Tells old new c reply a
+    -- a list that isn't empty, for whose lines memory is wanting
+    wants_lines : (account : AccountValue) → c ≡ ListAll account → (rows : List ListedValue) → reply ≡ Listed rows
+        → (rows ≡ [] → ⊥) → a ≡ unavailable → Tells old new c reply a
 
-  -- the desk's store is looked into and changes nowhere, and the signer isn't asked
-  pub record IsLook {W : Type 0} (t : Turn W B X) : Type 0 where
-    pub store : OnlyLooks g t.desk.store t.desk_after.store
-    pub signer : t.signer_after ≡ t.signer
+  -- The steps that the desk took for what was read, each with its reply: the one that it asks for, or none; then the
+  -- desk's store may have been looked into, and the signer isn't asked.
+  abbrev pub AreTaken : {W : Type 0} → ℤ → Turn W B X → List Told → Type 0
+  AreTaken reading t [] = OnlyLooks g t.desk.store t.desk_after.store × (t.signer_after ≡ t.signer)
+  AreTaken reading t (step ∷ []) = Reads reading t (Ok (Step step.command)) × Takes t step.command step.answer
+  AreTaken reading t (step ∷ other ∷ more) = ⊥
 
   -- The answer with a report, at the reading: the desk was `old` before the look and is `new` after it. An extract that
   -- is written row by row stands below (`Extracts`).
@@ -132,30 +139,26 @@ module _ {B X : Type 0} (g : Ghosts B) (signs : X → List ℕ → Result (List 
       (octets : Option ℕ)
       × Reports g (record { reading = reading; faults = count signer; octets = octets }) old new r a
 
-  -- why an answer is written
-  pub data IsAnswer {W : Type 0} (reading : ℤ) (t : Turn W B X) (a : AnswerValue) : Type 0 where
+  -- why an answer is written though the desk took no step
+  pub data IsAnswerAlone {W : Type 0} (reading : ℤ) (t : Turn W B X) (a : AnswerValue) : Type 0 where
     -- the request is refused
-    refuses : (r : Refusal) → Reads reading t (Err r) → IsIdle t → a ≡ refusal_answer r → IsAnswer reading t a
-    -- the desk takes the step that the request asks for, and the answer tells its reply
-    replies : (c : Command) → Reads reading t (Ok (Step c)) → (reply : Answer) → Takes t c reply → a ≡ answer_to c reply
-        → IsAnswer reading t a
-    -- the calibration that the request asks for is before the latest; the desk's reply says that the store refused it
-    turns_back : (c : CalibrationValue) → Reads reading t (Ok (Step (Calibrate c))) → Takes t (Calibrate c) turned_back
-        → IsBackwardsFor t.desk t.desk_after c → a ≡ refusal_answer refusal.Backwards → IsAnswer reading t a
-    -- the report that the request asks for takes a look, and no step
-    looks : (r : Report) → Reads reading t (Ok (Look r)) → IsLook t
-        → ReportsAt reading t.desk t.desk_after t.signer_after r a → IsAnswer reading t a
+    refuses : (r : Refusal) → Reads reading t (Err r) → IsIdle t → a ≡ refusal_answer r → IsAnswerAlone reading t a
+    -- the request asks for a report
+    looks : (r : Report) → Reads reading t (Ok (Look r)) → ReportsAt reading t.desk t.desk_after t.signer_after r a
+        → IsAnswerAlone reading t a
     -- memory is wanting before the body is read
-    wants_early : IsEarly t.input t.input_after → IsIdle t → a ≡ unavailable → IsAnswer reading t a
-    -- memory is wanting for the lines of a list that isn't empty, once that step is taken
-    wants_list : (account : AccountValue) → Reads reading t (Ok (Step (ListAll account))) → (rows : List ListedValue)
-        → (rows ≡ [] → ⊥) → Takes t (ListAll account) (Listed rows) → a ≡ unavailable → IsAnswer reading t a
+    wants_early : IsEarly t.input t.input_after → IsIdle t → a ≡ unavailable → IsAnswerAlone reading t a
 
-  -- an answer is written, for a reason
-  pub record Writes {W : Type 0} (contents : W → Option (List ℕ)) (reading : ℤ) (t : Turn W B X) (outcome : Served)
-      : Type 0 where
+  -- why an answer is written, where the desk took these steps
+  abbrev pub IsAnswer : {W : Type 0} → ℤ → Turn W B X → List Told → AnswerValue → Type 0
+  IsAnswer reading t [] a = IsAnswerAlone reading t a
+  IsAnswer reading t (step ∷ more) a = Tells t.desk t.desk_after step.command step.answer a
+
+  -- it is written
+  pub record Writes {W : Type 0} (contents : W → Option (List ℕ)) (reading : ℤ) (t : Turn W B X) (steps : List Told)
+      (outcome : Served) : Type 0 where
     pub answer : AnswerValue
-    pub is : IsAnswer reading t answer
+    pub is : IsAnswer reading t steps answer
     pub sent : Sends contents reading t.writer t.writer_after answer outcome
 
   -- The extract that the request asks for is written, row by row: it is that of each history that the store stands for.
@@ -168,17 +171,19 @@ module _ {B X : Type 0} (g : Ghosts B) (signs : X → List ℕ → Result (List 
     pub to : ℕ
     pub read : Reads reading t (Ok (Look (Extract account from to)))
     pub allowed : IsAllowed t.desk.setting.file account from to
-    pub look : IsLook t
     pub sent : g.honest t.desk_after.store → (b : History) → Stands g b t.desk.store
         → Sends contents reading t.writer t.writer_after (extract_answer from to b) outcome
     pub told : SendsOctets contents reading t.writer t.writer_after outcome
 
-  -- what each outcome says
-  abbrev pub Serves : {W : Type 0} → (W → Option (List ℕ)) → ℤ → Turn W B X → Served → Type 0
-  Serves contents reading t served.Closed = Consumes t.input t.input_after [] × IsAtEnd t.input_after × IsSilent t
-  Serves contents reading t served.ReadFailed = IsPart t.input t.input_after × IsSilent t
-  Serves contents reading t (served.Answered status) =
-      Writes contents reading t (served.Answered status) ⊎ Extracts contents reading t (served.Answered status)
-  Serves contents reading t (served.WriteFailed status sent) =
-      Writes contents reading t (served.WriteFailed status sent)
-      ⊎ Extracts contents reading t (served.WriteFailed status sent)
+  -- what each outcome says, where the desk took these steps
+  abbrev pub Ends : {W : Type 0} → (W → Option (List ℕ)) → ℤ → Turn W B X → List Told → Served → Type 0
+  Ends contents reading t [] served.Closed = Consumes t.input t.input_after [] × IsAtEnd t.input_after × IsSilent t
+  Ends contents reading t [] served.ReadFailed = IsPart t.input t.input_after × IsSilent t
+  Ends contents reading t [] outcome = Writes contents reading t [] outcome ⊎ Extracts contents reading t outcome
+  Ends contents reading t steps outcome = Writes contents reading t steps outcome
+
+  -- what is served: these steps are taken, and the outcome is told
+  pub record Serves {W : Type 0} (contents : W → Option (List ℕ)) (reading : ℤ) (t : Turn W B X) (steps : List Told)
+      (outcome : Served) : Type 0 where
+    pub taken : AreTaken reading t steps
+    pub ends : Ends contents reading t steps outcome

@@ -4,6 +4,7 @@ ghost use Rattle.std.specs.Io.KnownBytes.{Consumes, IsAtEnd};
 ghost use Rattle.policy.specs.View.{policy_view};
 ghost use Rattle.desk.specs.Answers.{reply_as};
 ghost use Rattle.desk.specs.Batches.{Question, stamp_for};
+ghost use Rattle.desk.specs.MachineRuns.{Told};
 ghost use Rattle.desk.specs.Together.{question_view};
 ghost use Rattle.service.specs.Answers.{answer_to};
 ghost use Rattle.service.specs.Known.{IsDue, IsDueAtEnd, IsDueInPlace};
@@ -49,8 +50,8 @@ fn give<W: Output, B: Book + Drop, G: Signer>(
     requires { IsDueInPlace due }
     ensures setting { desk.new.setting ≡ desk.old.setting }
     ensures honest { B.honest desk.new.store → B.honest desk.old.store }
-    ensures served { (r : ReceivedValue) → IsDue r due.entry → (before after : Option (List ℕ))
-        → Consumes before after (take r.taken r.octets)
+    ensures served { (steps : List Told) × ((r : ReceivedValue) → IsDue r due.entry
+        → (before after : Option (List ℕ)) → Consumes before after (take r.taken r.octets)
         → (r.is_ended ≡ true → r.taken ≡ length r.octets → IsAtEnd after)
         → Serves B.Standing G.signs G.fault_count W.contents environment.entry.reading (record {
           input = before;
@@ -61,7 +62,7 @@ fn give<W: Output, B: Book + Drop, G: Signer>(
           desk_after = desk.new;
           signer = signer.old;
           signer_after = signer.new;
-        }) result }
+        }) steps result) }
     ensures cut { IsDueAtEnd due.entry → TellsCut result }
     ensures failed { TellsFailure (W.failures writer.old) (W.failures writer.new) result
         ⊎ ((r : ReceivedValue) → IsDue r due.entry
@@ -99,7 +100,8 @@ impl Request {
     ) -> Exchanged
         ensures setting { desk.new.setting ≡ desk.old.setting }
         ensures honest { B.honest desk.new.store → B.honest desk.old.store }
-        ensures served { (before after : Option (List ℕ)) → Consumes before after (take self.now.taken self.now.octets)
+        ensures served { (steps : List Told) × ((before after : Option (List ℕ))
+            → Consumes before after (take self.now.taken self.now.octets)
             → (self.now.is_ended ≡ true → self.now.taken ≡ length self.now.octets → IsAtEnd after)
             → Serves B.Standing G.signs G.fault_count W.contents environment.entry.reading (record {
               input = before;
@@ -110,7 +112,7 @@ impl Request {
               desk_after = desk.new;
               signer = signer.old;
               signer_after = signer.new;
-            }) result.served }
+            }) steps result.served) }
         ensures all { result.is_all ≡ true → IsAll self.now.octets }
         ensures cut { self.now.is_wanting ≡ true → self.now.is_ended ≡ true → TellsCut result.served }
 
@@ -173,7 +175,7 @@ pub fn serve_over<R: Read, W: Output, B: Book + Drop, G: Signer>(
     ensures honest { B.honest desk.new.store → B.honest desk.old.store }
     ensures failed { TellsFailure (W.failures writer.old) (W.failures writer.new) result
         ⊎ ReadsRows desk.old.setting.file surroundings.reading (R.remaining reader.old) (R.remaining reader.new) }
-    ensures served { Serves B.Standing G.signs G.fault_count W.contents surroundings.reading (record {
+    ensures served { (steps : List Told) × Serves B.Standing G.signs G.fault_count W.contents surroundings.reading (record {
       input = R.remaining reader.old;
       input_after = R.remaining reader.new;
       writer = writer.old;
@@ -182,7 +184,7 @@ pub fn serve_over<R: Read, W: Output, B: Book + Drop, G: Signer>(
       desk_after = desk.new;
       signer = signer.old;
       signer_after = signer.new;
-    }) result }
+    }) steps result }
 {
     let alloc = surroundings.alloc;
     let Ok(routes) = Routes::new(alloc) else {
@@ -221,7 +223,7 @@ pub fn serve_one<R: Read, W: Output, B: Book + Drop, G: Signer>(
     ensures honest { B.honest desk.new.store → B.honest desk.old.store }
     ensures failed { TellsFailure (W.failures writer.old) (W.failures writer.new) result
         ⊎ ReadsRows desk.old.setting.file reading (R.remaining reader.old) (R.remaining reader.new) }
-    ensures served { Serves B.Standing G.signs G.fault_count W.contents reading (record {
+    ensures served { (steps : List Told) × Serves B.Standing G.signs G.fault_count W.contents reading (record {
       input = R.remaining reader.old;
       input_after = R.remaining reader.new;
       writer = writer.old;
@@ -230,7 +232,7 @@ pub fn serve_one<R: Read, W: Output, B: Book + Drop, G: Signer>(
       desk_after = desk.new;
       signer = signer.old;
       signer_after = signer.new;
-    }) result }
+    }) steps result }
 {
     let surroundings = Surroundings {
         alloc,

@@ -12,6 +12,7 @@ returns g c =
     let fits : SFits w64 one.reading = search rules in
     one_answered g.L.Hearing.takes_back g.L.Stream.Write.contents g.B.Standing g.G.Signer.signs g.G.Signer.fault_count
     (record { handed = handed_view one; stream_after = exchanged.new.writer; exchanged = exchanged.result })
+    exchanged.ensures.served.0
     (hall c.args.hearing.now (tt {0}) c.args.desk.now c.args.signer.now)
     (hall c.take_back.new.self (tt {0}) exchanged.new.desk exchanged.new.signer)
     (record {
@@ -28,7 +29,7 @@ returns g c =
             desk_after = exchanged.new.desk;
             signer = c.args.signer.now;
             signer_after = exchanged.new.signer;
-          }) exchanged.result.served in
-          subst P (to_z-of_z fits) (exchanged.ensures.served before after consumed ended);
+          }) exchanged.ensures.served.0 exchanged.result.served in
+          subst P (to_z-of_z fits) (exchanged.ensures.served.1 before after consumed ended);
       all = exchanged.ensures.all;
     }) c.take_back.ensures

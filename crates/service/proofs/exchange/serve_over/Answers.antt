@@ -1,7 +1,7 @@
-use Rattle.std.proofs.Common.{◌≡◌, ◌∙◌, ℤ, List, ℕ, ap, arith, inl, inr, length, refl, rules, subst, sym, take, true, false}
+use Rattle.std.proofs.Common.{◌≡◌, ◌∙◌, ℤ, List, [], ℕ, ap, arith, inl, inr, length, refl, rules, subst, sym, take, true, false}
 use Rattle.std.proofs.Common.{SFits, w64, to_z-of_z}
 use Rattle.std.proofs.KnownBytes.{Consumes-nil, Consumes-trans}
-use Rattle.std.proofs.lemmas.List.{take_all}
+use Rattle.std.proofs.lemmas.List.{append-nil, take_all}
 use Rattle.std.specs.Io.KnownBytes.{Consumes}
 use Rattle.service.specs.Received.{is_open}
 use Rattle.service.specs.Requests.{nothing}
@@ -9,20 +9,41 @@ use Rattle.service.specs.Answers.{unavailable}
 use Rattle.service.specs.Served.{Sends, Serves}
 use Rattle.service.specs.Stamps.{ReadsRows}
 use Rattle.service.proofs.RequestLemmas.{open_parts}
-use Rattle.service.proofs.ServingLemmas.{turn, wanting_early}
+use Rattle.service.proofs.ServingLemmas.{failing, turn, wanting_early}
 use Rattle.service.proofs.exchange.serve_over.Goals as goal
 
 pub returns-in_default-clause-served : goal.returns-in_default-clause-served
 returns-in_default-clause-served g c =
     let fits : SFits w64 c.args.surroundings.reading = search rules in
     let P : ℤ → Type 0 = λ at. Sends g.W.Write.contents at c.args.writer.now c.out_of_memory.new.writer unavailable
-    c.out_of_memory.result in
-    wanting_early g.B.Standing g.G.Signer.signs g.G.Signer.fault_count g.W.Write.contents c.args.surroundings.reading
-    (turn (g.R.Read.remaining c.args.reader.now) (g.R.Read.remaining c.args.reader.now) c.args.writer.now
-    c.out_of_memory.new.writer
-    c.args.desk.now c.args.desk.now c.args.signer.now c.args.signer.now)
-    c.out_of_memory.result (nothing (Consumes-nil _)) (record { desk = refl; signer = refl })
-    (subst P (to_z-of_z fits) c.out_of_memory.ensures.sent)
+    c.out_of_memory.result in (
+      [],
+      wanting_early g.B.Standing g.G.Signer.signs g.G.Signer.fault_count g.W.Write.contents
+          c.args.surroundings.reading
+          (turn (g.R.Read.remaining c.args.reader.now) (g.R.Read.remaining c.args.reader.now) c.args.writer.now
+          c.out_of_memory.new.writer c.args.desk.now c.args.desk.now c.args.signer.now c.args.signer.now)
+          c.out_of_memory.result (nothing (Consumes-nil _)) (record { desk = refl; signer = refl })
+          (subst P (to_z-of_z fits) c.out_of_memory.ensures.sent),
+    )
+
+pub returns-in-Err-clause-served : goal.returns-in-Err-clause-served
+returns-in-Err-clause-served g c =
+    let octets = c.reading.request.octets in
+    let before = g.R.Read.remaining c.args.reader.now in
+    let after = g.R.Read.remaining c.read.new.reader in
+    let C : List ℕ → Type 0 = λ l. Consumes before after l in (
+      [],
+      failing g.B.Standing g.G.Signer.signs g.G.Signer.fault_count g.W.Write.contents c.args.surroundings.reading
+          (turn before after c.args.writer.now c.args.writer.now c.args.desk.now c.args.desk.now c.args.signer.now
+          c.args.signer.now)
+          (record {
+            octets = octets;
+            is = c.in-Err.ensures.partial;
+            consumed = subst C (append-nil octets)
+                (Consumes-trans _ _ _ octets [] c.reading.invariant.consumed c.in-Err.ensures.failed);
+          })
+          (record { writer = refl; idle = record { desk = refl; signer = refl } }),
+    )
 
 pub reading-preserved : goal.reading-preserved
 reading-preserved g c =
@@ -47,12 +68,15 @@ returns-clause-served g c =
     ap (λ n. take n r.octets) (c.reading.invariant.exact closed) ∙ take_all (length r.octets) r.octets (omega arith) in
     let C : List ℕ → Type 0 = λ l. Consumes before after l in
     let fits : SFits w64 c.args.surroundings.reading = search rules in
+    let steps = c.serve.ensures.served.0 in
     let P : ℤ → Type 0 = λ at. Serves g.B.Standing g.G.Signer.signs g.G.Signer.fault_count g.W.Write.contents at
     (turn before after c.args.writer.now c.serve.new.writer c.args.desk.now c.serve.new.desk c.args.signer.now
-    c.serve.new.signer) c.serve.result.served in
-    subst P (to_z-of_z fits)
-    (c.serve.ensures.served before after (subst C (sym all) c.reading.invariant.consumed)
-    (λ ended some. c.reading.invariant.ended ended))
+    c.serve.new.signer) steps c.serve.result.served in (
+      steps,
+      subst P (to_z-of_z fits)
+          (c.serve.ensures.served.1 before after (subst C (sym all) c.reading.invariant.consumed)
+          (λ ended some. c.reading.invariant.ended ended)),
+    )
 
 pub returns-clause-failed : goal.returns-clause-failed
 returns-clause-failed g c =

@@ -1,4 +1,5 @@
-use Rattle.std.proofs.Common.{ℤ, subst, rules, SFits, w64, to_z-of_z}
+use Rattle.std.proofs.Common.{ℤ, List, subst, rules, SFits, w64, to_z-of_z}
+use Rattle.desk.specs.MachineRuns.{Told}
 use Rattle.service.specs.Served.{Serves, Turn}
 use Rattle.counter.proofs.OfService.{exchanged}
 use Rattle.counter.proofs.http_request.OneRequestDeskOperation.perform.Goals as goal
@@ -19,7 +20,8 @@ returns-clause-answered g c =
     in
     let fits : SFits w64 c.args.self.reading = search rules in
     let at : ℤ → Type 0 =
-    λ n. Serves g.B.Standing g.G.Signer.signs g.G.Signer.fault_count g.W.Write.contents n turn c.serve_over.result
+    λ n. (steps : List Told) × Serves g.B.Standing g.G.Signer.signs g.G.Signer.fault_count g.W.Write.contents n turn
+    steps c.serve_over.result
     in
     exchanged g.B.Standing g.G.Signer.signs g.G.Signer.fault_count g.W.Write.contents c.args.self.reading turn
     c.serve_over.result (subst at (to_z-of_z fits) c.serve_over.ensures.served)

@@ -3,10 +3,10 @@ use Rattle.policy.specs.View.{account_view}
 use Rattle.book.specs.Values.{listed_view}
 use Rattle.desk.specs.Command.{ListAll, Listed, Refused}
 use Rattle.service.specs.Answers.{refusal_answer, success, unavailable}
-use Rattle.service.specs.Served.{plainly}
+use Rattle.service.specs.Served.{plainly, wants_lines}
 use Rattle.service.specs.declared.answer.Media.TheVariants as media
 use Rattle.service.proofs.ExtractLemmas.{sent_behind}
-use Rattle.service.proofs.HandledLemmas.{told, list_wanted}
+use Rattle.service.proofs.HandledLemmas.{told}
 use Rattle.service.proofs.handlers.deposits.list.Goals as goal
 
 pub returns-in-Err-clause-served : goal.returns-in-Err-clause-served
@@ -31,9 +31,11 @@ returns-in-Some-clause-served g c =
 
 pub returns-clause-served : goal.returns-clause-served
 returns-clause-served g c =
-    list_wanted g.B.Standing g.G.Signer.signs g.G.Signer.fault_count g.W.Write.contents c.args.context.now.at.reading
+    told g.B.Standing g.G.Signer.signs g.G.Signer.fault_count g.W.Write.contents c.args.context.now.at.reading
     c.args.writer.now c.out_of_memory.new.writer c.args.desk.now c.list_within.new.self c.args._signer.now
-    c.args._signer.now c.out_of_memory.result (account_view c.args.account.now) (map listed_view c.in-Ok.rows.items)
-    (rw c.deref.ensures.value at c.in-None.ensures) (c.in-Ok.ensures.step, refl)
+    c.args._signer.now c.out_of_memory.result (ListAll (account_view c.args.account.now))
+    (Listed (map listed_view c.in-Ok.rows.items)) unavailable (c.in-Ok.ensures.step, refl)
+    (wants_lines (account_view c.args.account.now) refl (map listed_view c.in-Ok.rows.items) refl
+    (rw c.deref.ensures.value at c.in-None.ensures) refl)
     (sent_behind g.W.Write.contents _ c.args.writer.now c.list_within.new.output c.out_of_memory.new.writer
     c.list_within.ensures.unwritten unavailable _ c.out_of_memory.ensures.sent)
