@@ -31,7 +31,7 @@ use Rattle.tables.specs.Shown.{readable_shown}
 use Rattle.tables.specs.Statements.{insert_reader, insert_group_reader, delete_reader, delete_group_reader}
 use Rattle.tables.specs.Steps.{with_right_alone}
 use Rattle.tables.specs.Tables.{Tables, ReaderRow, is_reader_row, without_name, without_right, with_right, rights_of}
-use Rattle.tables.specs.Tables.{name_of}
+use Rattle.tables.specs.Tables.{by_kind, name_of}
 use Rattle.tables.proofs.CarryLemmas.{carried, Makes}
 use Rattle.tables.proofs.ChangeLemmas.{raw, inserted}
 use Rattle.tables.proofs.FrameLemmas.{with_readers, with_group_readers}
@@ -56,12 +56,10 @@ right_test serial whom y = ap₂ ◌&&◌ (test_number y.1.serial serial) (and_t
 
 -- the place of the table in the schema, and its tree
 abbrev pub place_of : Reader → ℕ
-place_of (Account whom) = 5
-place_of (Group whom) = 7
+place_of reader = by_kind reader 5 7
 
 abbrev pub tree_for : Reader → ℕ
-tree_for (Account whom) = 6
-tree_for (Group whom) = 10
+tree_for reader = by_kind reader 6 10
 
 -- ---- what a statement makes of such a table
 
@@ -107,8 +105,7 @@ module _ (tree at : ℕ) (table whom : List ℕ) (limit : Option ℕ) (text : Li
 -- ---- a right given
 
 abbrev pub insert_right : Reader → List ℕ
-insert_right (Account whom) = insert_reader
-insert_right (Group whom) = insert_group_reader
+insert_right reader = by_kind reader insert_reader insert_group_reader
 
 right_makes : (reader : Reader) (serial : ℕ)
     → Makes (right_insert (place_of reader)) (right_params serial (name_of reader)) (with_right_alone serial reader)
@@ -144,8 +141,7 @@ right_carried reader serial =
 -- ---- a right taken back
 
 abbrev pub delete_right : Reader → List ℕ
-delete_right (Account whom) = delete_reader
-delete_right (Group whom) = delete_group_reader
+delete_right reader = by_kind reader delete_reader delete_group_reader
 
 right_unmakes : (reader : Reader) (serial : ℕ)
     → Makes (right_delete (place_of reader) (tree_for reader)) (right_params serial (name_of reader))
@@ -191,8 +187,9 @@ right_given (Group whom) serial t = refl
 -- ---- whether there is such a right
 
 abbrev is_reader_sql : Reader → List ℕ
-is_reader_sql (Account whom) = codes "SELECT serial FROM reader WHERE serial = ?1 AND account = ?2"
-is_reader_sql (Group whom) = codes "SELECT serial FROM group_reader WHERE serial = ?1 AND name = ?2"
+is_reader_sql reader =
+    by_kind reader (codes "SELECT serial FROM reader WHERE serial = ?1 AND account = ?2")
+    (codes "SELECT serial FROM group_reader WHERE serial = ?1 AND name = ?2")
 
 pub asks_is_reader : (reader : Reader) → Asks (is_reader_sql reader)
     (Select (program_of (tree_for reader) right_tests (col 1 1 ∷ []) [] no_limit) (codes "serial" ∷ []))
@@ -223,10 +220,9 @@ next_test : (whom : List ℕ) (after : ℕ) (y : Value × ReaderRow)
 next_test whom after y = ap₂ ◌&&◌ (test_text y.1.name whom) (and_true _ ∙ test_after y.1.serial after)
 
 abbrev next_readable_sql : Reader → List ℕ
-next_readable_sql (Account whom) =
-    codes "SELECT serial FROM reader WHERE account = ?1 AND serial > ?2 ORDER BY serial LIMIT 1"
-next_readable_sql (Group whom) =
-    codes "SELECT serial FROM group_reader WHERE name = ?1 AND serial > ?2 ORDER BY serial LIMIT 1"
+next_readable_sql reader =
+    by_kind reader (codes "SELECT serial FROM reader WHERE account = ?1 AND serial > ?2 ORDER BY serial LIMIT 1")
+    (codes "SELECT serial FROM group_reader WHERE name = ?1 AND serial > ?2 ORDER BY serial LIMIT 1")
 
 pub asks_next_readable : (reader : Reader) → Asks (next_readable_sql reader)
     (Select (program_of (tree_for reader) next_tests (col 1 1 ∷ []) ((col 1 1, rising) ∷ []) one) (codes "serial" ∷ []))

@@ -144,10 +144,14 @@ without_right serial reader t = changed_right reader (without_name serial) t
 abbrev pub with_right : ℕ → Reader → Tables → Tables
 with_right serial reader t = changed_right reader (with_name serial) t
 
+-- one of two things, by what a reader is
+abbrev pub by_kind : {X : Type 0} → Reader → X → X → X
+by_kind (Account name) account group = account
+by_kind (Group name) account group = group
+
 -- the rights of accounts, and of groups
 abbrev pub rights_of : Reader → Tables → List ReaderRow
-rights_of (Account name) t = t.readers
-rights_of (Group name) t = t.group_readers
+rights_of reader t = by_kind reader t.readers t.group_readers
 
 abbrev pub name_of : Reader → List ℕ
 name_of (Account name) = name

@@ -7,7 +7,7 @@ ghost use Rattle.book.specs.Entries.{reader_view};
 ghost use Rattle.tables.specs.Found.{IsLeastAs};
 ghost use Rattle.tables.specs.Queries.{LooksUp, ShowsReaderSerial, is_readable_after};
 ghost use Rattle.tables.specs.Steps.{with_right_alone};
-ghost use Rattle.tables.specs.Tables.{without_right, is_reader_row, rights_of, name_of};
+ghost use Rattle.tables.specs.Tables.{without_right, is_reader_row, by_kind, rights_of, name_of};
 ghost use Rattle.tables.specs.Transaction.{Carries};
 
 use crate::base::Base;
@@ -35,6 +35,21 @@ const NEXT_READABLE: &str =
 const NEXT_GROUP_READABLE: &str =
     "SELECT serial FROM group_reader WHERE name = ?1 AND serial > ?2 ORDER BY serial LIMIT 1";
 
+/// The statement over the table of a reader's rights, that of accounts or that of groups, and the reader's name.
+fn in_table<'a>(
+    reader: Reader<'a>,
+    accounts: &'static str,
+    groups: &'static str,
+) -> (&'static str, &'a [u8])
+    ensures statement { result.0.now ≡ by_kind (reader_view reader.entry) accounts.now groups.now }
+    ensures name { result.1.now ≡ name_of (reader_view reader.entry) }
+{
+    match reader {
+        Reader::Account(name) => (accounts, name.as_bytes()),
+        Reader::Group(name) => (groups, name.as_bytes()),
+    }
+}
+
 pub(crate) fn put_right<S: Alter>(
     tx: &mut Transaction<'_, S>,
     serial: u64,
@@ -44,16 +59,8 @@ pub(crate) fn put_right<S: Alter>(
     ensures carries { Carries (with_right_alone serial (reader_view reader.now)) (state S.Store tx.old.conn.now)
         (state S.Store tx.new.conn.now) result }
 {
-    let serial = column(serial)?;
-    match reader {
-        Reader::Account(name) => {
-            tx.execute(INSERT_READER, &[serial, ValueRef::Text(name.as_bytes())])
-        }
-        Reader::Group(name) => tx.execute(
-            INSERT_GROUP_READER,
-            &[serial, ValueRef::Text(name.as_bytes())],
-        ),
-    }
+    let (statement, name) = in_table(*reader, INSERT_READER, INSERT_GROUP_READER);
+    tx.execute(statement, &[column(serial)?, ValueRef::Text(name)])
 }
 
 pub(crate) fn drop_right<S: Alter>(
@@ -65,16 +72,8 @@ pub(crate) fn drop_right<S: Alter>(
     ensures carries { Carries (without_right serial (reader_view reader.now)) (state S.Store tx.old.conn.now)
         (state S.Store tx.new.conn.now) result }
 {
-    let serial = column(serial)?;
-    match reader {
-        Reader::Account(name) => {
-            tx.execute(DELETE_READER, &[serial, ValueRef::Text(name.as_bytes())])
-        }
-        Reader::Group(name) => tx.execute(
-            DELETE_GROUP_READER,
-            &[serial, ValueRef::Text(name.as_bytes())],
-        ),
-    }
+    let (statement, name) = in_table(*reader, DELETE_READER, DELETE_GROUP_READER);
+    tx.execute(statement, &[column(serial)?, ValueRef::Text(name)])
 }
 
 impl<S: Alter + Drop> Base<S> {
@@ -84,15 +83,9 @@ impl<S: Alter + Drop> Base<S> {
             ≡ list_any (is_reader_row serial (name_of (reader_view reader.entry)))
             (rights_of (reader_view reader.entry) t)) self.old self.new result }
     {
+        let (statement, name) = in_table(reader, IS_READER, IS_GROUP_READER);
         let serial = self.column(serial)?;
-        match reader {
-            Reader::Account(name) => {
-                self.any_row(IS_READER, &[serial, ValueRef::Text(name.as_bytes())])
-            }
-            Reader::Group(name) => {
-                self.any_row(IS_GROUP_READER, &[serial, ValueRef::Text(name.as_bytes())])
-            }
-        }
+        self.any_row(statement, &[serial, ValueRef::Text(name)])
     }
 
     /// The least number after `after` of a deposit that the reader has the right to read. It goes through the rights to
@@ -107,17 +100,8 @@ impl<S: Alter + Drop> Base<S> {
             found) self.old self.new result }
         ensures small { IfOk result (λ found. IfSome found (λ number. number < 2 ^ 63)) }
     {
+        let (statement, name) = in_table(reader, NEXT_READABLE, NEXT_GROUP_READABLE);
         let after = self.column(after)?;
-        match reader {
-            Reader::Account(name) => {
-                self.first_number(NEXT_READABLE, &[ValueRef::Text(name.as_bytes()), after])
-            }
-            Reader::Group(name) => {
-                self.first_number(
-                    NEXT_GROUP_READABLE,
-                    &[ValueRef::Text(name.as_bytes()), after],
-                )
-            }
-        }
+        self.first_number(statement, &[ValueRef::Text(name), after])
     }
 }
