@@ -4,7 +4,7 @@ use Rattle.std.proofs.Common.{sym, ap, ◌∙◌, subst, inl, inr}
 use Rattle.std.specs.Prelude.{Result, IfErr, MatchResult}
 use Rattle.std.specs.Str.{bytes_eq}
 use Rattle.std.specs.Hash.DefaultHasher.{wrapping_add}
-use Rattle.policy.specs.Record.{PolicyValue}
+use Rattle.policy.specs.Record.{AccountValue, PolicyValue}
 use Rattle.book.specs.declared.fault.StoreFault.{StoreFault}
 use Rattle.book.specs.declared.fault.StoreFault.TheVariants as store
 use Rattle.book.specs.declared.standing.Standing.{Ghosts}
@@ -16,7 +16,8 @@ use Rattle.book.specs.Rows.{DepositRow}
 use Rattle.book.specs.Sound.{Fits, FitsRight}
 use Rattle.book.specs.Entries.{Appends}
 use Rattle.book.specs.Stands.{Stands, OnlyLooks}
-use Rattle.desk.specs.Command.{Setting, Command, Done, Refused}
+use Rattle.desk.specs.Asked.{right_command, right_entry}
+use Rattle.desk.specs.Command.{Setting, Answer, Done, Refused}
 use Rattle.desk.specs.Effects.{Effect, only, unless, fault_of, objection, accepted, unless_against, right_effect}
 use Rattle.desk.specs.Obstacles.{fault_with, hindered, outcome_with, IsOfRight, IsOfSight, IsOpposed, IsUnseen}
 use Rattle.desk.specs.Obstacles.{told_with, MayName, MayNot, Owns}
@@ -32,7 +33,9 @@ use Rattle.desk.specs.declared.fault.Fault.{Fault}
 use Rattle.desk.specs.declared.fault.Fault.TheVariants as fault
 use Rattle.desk.specs.declared.obstacle.Obstacle.{Obstacle}
 use Rattle.desk.specs.declared.obstacle.Obstacle.TheVariants as obstacle
-use Rattle.desk.proofs.Denied.{looked_up, denied}
+use Rattle.desk.specs.declared.rights.Change.{Change}
+use Rattle.desk.specs.declared.rights.Change.TheVariants.{Give, Take}
+use Rattle.desk.proofs.Denied.{denied}
 use Rattle.desk.proofs.Fits.{none_failed}
 use Rattle.desk.proofs.Beginnings.{one_in_doubt}
 use Rattle.desk.proofs.StepFacts.{right_seen}
@@ -81,203 +84,196 @@ uncounted_by file account reader (Err (obstacle.Looking f)) count h = absurd h
 uncounted_by file account reader (Err obstacle.OutOfMemory) count h = absurd h
 uncounted_by file account reader (Err (obstacle.Adding f)) count h = absurd h
 
--- the effect of a right on a history
-abbrev pub righted : Setting → List ℕ → ℕ → Reader → Entry → Outcome → History → Effect
-righted s account n reader entry o b = unless (cause_of o.searching)
-    (right_effect s.file account reader o entry (seen_by (viewer_in s.file account) n b))
+-- a right to the deposit with a number, which its owner gives a reader or takes
+module _ (s : Setting) (a : AccountValue) (n : ℕ) (reader : Reader) where
+  -- the effect of its entry on a history
+  abbrev righted : Entry → Outcome → History → Effect
+  righted entry o b = unless (cause_of o.searching)
+      (right_effect s.file a.name reader o entry (seen_by (viewer_in s.file a.name) n b))
 
--- a command that gives or takes a right
-abbrev pub IsRighting : Setting → Command → List ℕ → ℕ → Reader → Entry → Type 0
-IsRighting s c account n reader entry = (o : Outcome) (b : History) (e : Effect)
-    → e ≡ righted s account n reader entry o b → HasEffect s c o b e
+  -- is that of the command
+  righting : (change : Change) (o : Outcome) (b : History) (e : Effect)
+      → e ≡ righted (right_entry change n reader) o b → HasEffect s (right_command change a n reader) o b e
+  righting Give o b e h = h
+  righting Take o b e h = h
 
-abbrev named : Option Cause → Entry → Bool → Option Fault → Effect
-named refused entry owns against =
-    cond owns (unless_against against (unless refused (accepted entry))) (only (Refused fault.NotOwner))
+  right_fits : (change : Change) (b : History) → FitsRight n b → Fits (right_entry change n reader) b
+  right_fits Give b fits = fits
+  right_fits Take b fits = fits
 
-right_is : (file : PolicyValue) (account : List ℕ) (reader : Reader) (o : Outcome) (entry : Entry) (d : DepositRow)
-    (seen : Option DepositRow) (owns : Bool) (against : Option Fault) → cause_of o.looking ≡ None → seen ≡ Some d
-    → bytes_eq d.owner account ≡ owns → objection file account reader ≡ against
-    → right_effect file account reader o entry seen ≡ named (cause_of o.adding) entry owns against
-right_is file account reader o entry d seen owns against looked is e f =
-    let r = cause_of o.adding in
-    ap (right_effect file account reader o entry) is
-    ∙ (ap (λ x. unless x (named r entry (bytes_eq d.owner account) (objection file account reader))) looked
-    ∙ (ap (λ x. named r entry x (objection file account reader)) e ∙ ap (λ x. named r entry owns x) f))
+  -- the calls that the command makes
+  calls_fit : (change : Change) (searching looking adding : Call) → IsFit (right_command change a n reader)
+      (record (all_fine (Ok [])) { searching = searching; looking = looking; adding = adding })
+  calls_fit Give searching looking adding = (refl, (tt, tt))
+  calls_fit Take searching looking adding = (refl, (tt, tt))
 
--- the account may, and so the entry stands where the commit is answered
-made : (s : Setting) (account : List ℕ) (reader : Reader) (n : ℕ) (b : History) (entry : Entry) (o : Outcome)
-    → MayName s.file account reader n b → cause_of o.searching ≡ None → cause_of o.looking ≡ None
-    → (refused : Option Cause) → cause_of o.adding ≡ refused
-    → righted s account n reader entry o b ≡ unless refused (accepted entry)
-made s account reader n b entry o m searched looked refused e =
-    let seen = seen_by (viewer_in s.file account) n b in
-    ap (λ x. unless x (right_effect s.file account reader o entry seen)) searched
-    ∙ (right_is s.file account reader o entry m.deposit seen true None looked m.own.seen m.own.owns m.unopposed
-    ∙ ap (λ x. unless x (accepted entry)) e)
+  right_opens : {B : Type 0} (g : Ghosts B) (change : Change) (new : B) → g.is_open new
+      → IsOpened g (right_command change a n reader) Done new
+  right_opens g Give new opened = opened
+  right_opens g Take new opened = opened
 
--- what the look-ups before the commit found
-pub record Allows {B : Type 0} (g : Ghosts B) (s : Setting) (c : Command) (account : List ℕ) (reader : Reader)
-    (n : ℕ) (entry : Entry) (old mid new : B) : Type 0 where
-  pub righting : IsRighting s c account n reader entry
-  pub fits : (b : History) → FitsRight n b → Fits entry b
-  pub made : IsFit c (all_fine (Ok []))
-  pub opens : g.is_open new → IsOpened g c Done new
-  pub looks : OnlyLooks g old mid
-  pub uncounted : g.fault_count mid ≡ g.fault_count old
-  pub may : g.honest mid → (b : History) → Stands g b old → MayName s.file account reader n b
+  abbrev named : Option Cause → Entry → Bool → Option Fault → Effect
+  named refused entry owns against =
+      cond owns (unless_against against (unless refused (accepted entry))) (only (Refused fault.NotOwner))
 
--- the right is entered
-right_entered : {B : Type 0} (g : Ghosts B) (s : Setting) (c : Command) (account : List ℕ) (reader : Reader)
-    (n : ℕ) (entry : Entry) (old mid new : B) → Allows g s c account reader n entry old mid new
-    → Appends {A = Unit {0}} g (entry ∷ []) mid new (Ok tt)
-    → StepsBy g no_signer s c (all_fine (Ok [])) old new Done
-right_entered g s c account reader n entry old mid new a x = record {
-  fits = a.made;
-  counted = x.faults ∙ a.uncounted;
-  signer = tt;
-  blames = tt;
-  opened = λ honest. a.opens (x.opened honest).1;
-  steps = λ honest b st met.
-      let m = a.may (x.honest honest) b st in
-      let now = x.ok b (a.looks.stands b st)
-      (a.fits b (right_seen (viewer_in s.file account) n b m.deposit m.own.seen), tt) in
+  right_is : (o : Outcome) (entry : Entry) (d : DepositRow) (seen : Option DepositRow) (owns : Bool)
+      (against : Option Fault) → cause_of o.looking ≡ None → seen ≡ Some d → bytes_eq d.owner a.name ≡ owns
+      → objection s.file a.name reader ≡ against
+      → right_effect s.file a.name reader o entry seen ≡ named (cause_of o.adding) entry owns against
+  right_is o entry d seen owns against looked is e f =
+      let r = cause_of o.adding in
+      ap (right_effect s.file a.name reader o entry) is
+      ∙ (ap (λ x. unless x (named r entry (bytes_eq d.owner a.name) (objection s.file a.name reader))) looked
+      ∙ (ap (λ x. named r entry x (objection s.file a.name reader)) e ∙ ap (λ x. named r entry owns x) f))
+
+  -- the account may, and so the entry stands where the commit is answered
+  made : (b : History) (entry : Entry) (o : Outcome) → MayName s.file a.name reader n b → cause_of o.searching ≡ None
+      → cause_of o.looking ≡ None → (refused : Option Cause) → cause_of o.adding ≡ refused
+      → righted entry o b ≡ unless refused (accepted entry)
+  made b entry o m searched looked refused e =
+      let seen = seen_by (viewer_in s.file a.name) n b in
+      ap (λ x. unless x (right_effect s.file a.name reader o entry seen)) searched
+      ∙ (right_is o entry m.deposit seen true None looked m.own.seen m.own.owns m.unopposed
+      ∙ ap (λ x. unless x (accepted entry)) e)
+
+  -- the owner may not, for this fault
+  opposed : (b : History) (entry : Entry) (d : DepositRow) (f : Fault) → Owns s.file a.name n b d
+      → objection s.file a.name reader ≡ Some f → righted entry (all_fine (Ok [])) b ≡ only (Refused f)
+  opposed b entry d f own against =
+      right_is (all_fine (Ok [])) entry d (seen_by (viewer_in s.file a.name) n b) true (Some f) refl own.seen own.owns
+      against
+
+  hidden : (entry : Entry) (b : History) (x : Obstacle) → IsOfRight reader x → MayNot s.file a.name reader n b x
+      → righted entry (hindered x) b ≡ only (Refused (fault_with x))
+  hidden entry b obstacle.NotHere of may = ap (right_effect s.file a.name reader (all_fine (Ok [])) entry) may
+  hidden entry b obstacle.NotOwner of may =
+      right_is (all_fine (Ok [])) entry may.0 (seen_by (viewer_in s.file a.name) n b) false
+      (objection s.file a.name reader) refl may.1.0 may.1.1 refl
+  hidden entry b obstacle.UnknownReader of may = opposed b entry may.0 fault.UnknownReader may.1.0 may.1.1
+  hidden entry b obstacle.UnknownGroup of may = opposed b entry may.0 fault.UnknownGroup may.1.0 may.1.1
+  hidden entry b obstacle.SelfGrant of may = opposed b entry may.0 fault.SelfGrant may.1.0 may.1.1
+  hidden entry b (obstacle.Searching store.Memory) of may = refl
+  hidden entry b (obstacle.Searching store.Database) of may = refl
+  hidden entry b (obstacle.Searching store.NotOurs) of may = absurd (elim of [ inl e ↦ cc | inr e ↦ cc ])
+  hidden entry b (obstacle.Searching store.Full) of may = absurd (elim of [ inl e ↦ cc | inr e ↦ cc ])
+  hidden entry b (obstacle.Searching store.Backwards) of may = absurd (elim of [ inl e ↦ cc | inr e ↦ cc ])
+  hidden entry b (obstacle.Looking store.Memory) of may =
+      ap (right_effect s.file a.name reader (hindered (obstacle.Looking store.Memory)) entry) may.1
+  hidden entry b (obstacle.Looking store.Database) of may =
+      ap (right_effect s.file a.name reader (hindered (obstacle.Looking store.Database)) entry) may.1
+  hidden entry b (obstacle.Looking store.NotOurs) of may = absurd (elim of [ inl e ↦ cc | inr e ↦ cc ])
+  hidden entry b (obstacle.Looking store.Full) of may = absurd (elim of [ inl e ↦ cc | inr e ↦ cc ])
+  hidden entry b (obstacle.Looking store.Backwards) of may = absurd (elim of [ inl e ↦ cc | inr e ↦ cc ])
+  hidden entry b obstacle.OutOfMemory of may = absurd of
+  hidden entry b (obstacle.Adding f) of may = absurd of
+
+module _ {B : Type 0} (g : Ghosts B) (s : Setting) (a : AccountValue) (n : ℕ) (reader : Reader) (change : Change)
+    (old mid new : B) where
+  abbrev Changes : Outcome → B → Answer → Type 0
+  Changes o after says = StepsBy g no_signer s (right_command change a n reader) o old after says
+
+  -- the look-ups tell why the right stays as it is
+  pub right_denied : (x : Obstacle) → IsOfRight reader x → OnlyLooks g old mid
+      → g.fault_count mid ≡ faults_after (hindered x) (g.fault_count old)
+      → (g.honest mid → (b : History) → Stands g b old → MayNot s.file a.name reader n b x)
+      → Changes (hindered x) mid (Refused (fault_with x))
+  right_denied x of looks counted may =
+      denied reader g s (right_command change a n reader) old mid x
+      (λ searching looking. calls_fit s a n reader change searching looking Fine) (λ f. tt) of looks counted
+      (λ honest b st. righting s a n reader change (hindered x) b (only (Refused (fault_with x)))
+      (sym (hidden s a n reader (right_entry change n reader) b x of (may honest b st))))
+
+  -- what the look-ups before the commit found
+  pub record Allows : Type 0 where
+    pub looks : OnlyLooks g old mid
+    pub uncounted : g.fault_count mid ≡ g.fault_count old
+    pub may : g.honest mid → (b : History) → Stands g b old → MayName s.file a.name reader n b
+
+  abbrev Adds : Result (Unit {0}) StoreFault → Type 0
+  Adds r = Appends g (right_entry change n reader ∷ []) mid new r
+
+  abbrev refusing : Call → Outcome
+  refusing adding = record (all_fine (Ok [])) { adding = adding }
+
+  fits_then : (b : History) → MayName s.file a.name reader n b → Fits (right_entry change n reader) b
+  fits_then b m =
+      right_fits s a n reader change b (right_seen (viewer_in s.file a.name) n b m.deposit m.own.seen)
+
+  -- the right is entered
+  right_entered : Allows → Adds (Ok tt) → Changes (all_fine (Ok [])) new Done
+  right_entered allows x = record {
+    fits = calls_fit s a n reader change Fine Fine Fine;
+    counted = x.faults ∙ allows.uncounted;
+    signer = tt;
+    blames = tt;
+    opened = λ honest. right_opens s a n reader g change new (x.opened honest).1;
+    steps = λ honest b st met.
+        let entry = right_entry change n reader in
+        let m = allows.may (x.honest honest) b st in
+        let now = x.ok b (allows.looks.stands b st) (fits_then b m, tt) in
+        record {
+          effect = accepted entry;
+          has = righting s a n reader change (all_fine (Ok [])) b (accepted entry)
+              (sym (made s a n reader b entry (all_fine (Ok [])) m refl refl None refl));
+          says = refl;
+          moves = refl;
+          stands = now;
+          left = λ left r. inr (inl (now.settled honest (x.opened honest).1 left r));
+        };
+  }
+
+  -- the store refuses to add it by this fault
+  refused_as : (adding : Call) (cause : Cause) → Allows → cause_of adding ≡ Some cause → (adding ≡ Fine → ⊥)
+      → IsBlamed g (right_command change a n reader) (refusing adding) old new (Refused (fault_of cause))
+      → g.fault_count new ≡ faults_after (refusing adding) (g.fault_count old) → (f : StoreFault) → Adds (Err f)
+      → Changes (refusing adding) new (Refused (fault_of cause))
+  refused_as adding cause allows why was_refused blames counted f x =
+      let entry = right_entry change n reader in
+      let o = refusing adding in
       record {
-        effect = accepted entry;
-        has = a.righting (all_fine (Ok [])) b (accepted entry)
-            (sym (made s account reader n b entry (all_fine (Ok [])) m refl refl None refl));
-        says = refl;
-        moves = refl;
-        stands = now;
-        left = λ left r. inr (inl (now.settled honest (x.opened honest).1 left r));
-      };
-}
+        fits = calls_fit s a n reader change Fine Fine adding;
+        counted = counted;
+        signer = tt;
+        blames = blames;
+        opened = λ honest. tt;
+        steps = λ honest b st met.
+            let m = allows.may (x.honest honest) b st in
+            let stood = allows.looks.stands b st in
+            record {
+              effect = only (Refused (fault_of cause));
+              has = righting s a n reader change o b (only (Refused (fault_of cause)))
+                  (sym (made s a n reader b entry o m refl refl (Some cause) why));
+              says = refl;
+              moves = refl;
+              stands = x.err b stood;
+              left = λ left r. elim (x.crash honest left r) [
+                | inl same ↦ inl (refl, allows.looks.leaves (x.honest honest) left same)
+                | inr adds ↦ inr (inr (record {
+                  refused = λ fine sealed. was_refused fine;
+                  doubted = accepted entry;
+                  has = righting s a n reader change (committed o) b (accepted entry)
+                      (sym (made s a n reader b entry (committed o) m refl refl None refl));
+                  holds = subst (λ es. g.holds left (es ++ b)) (sym (one_in_doubt adding entry))
+                      (adds b stood (fits_then b m, tt));
+                }))
+              ];
+            };
+      }
 
--- The effect of a right that isn't entered.
-turned : (file : PolicyValue) (account : List ℕ) (reader : Reader) (o : Outcome) (entry : Entry) (d : DepositRow)
-    (seen : Option DepositRow) (f : Fault) → cause_of o.looking ≡ None → seen ≡ Some d
-    → bytes_eq d.owner account ≡ true → objection file account reader ≡ Some f
-    → right_effect file account reader o entry seen ≡ only (Refused f)
-turned file account reader o entry d seen f looked is owns against =
-    right_is file account reader o entry d seen true (Some f) looked is owns against
+  right_refused : (f : StoreFault) → Allows → IsOfStorage f → Adds (Err f)
+      → Changes (hindered (obstacle.Adding f)) new (Refused (fault_with (obstacle.Adding f)))
+  right_refused store.Memory allows of x =
+      refused_as OutOfMemory OfMemory allows refl (λ fine. cc) (none_failed _ tt tt tt tt tt tt tt tt)
+      (x.faults ∙ allows.uncounted) store.Memory x
+  right_refused store.Database allows of x =
+      refused_as Failed OfStore allows refl (λ fine. cc) (inl (inr (inr (inr (inr (inl refl))))))
+      (x.faults ∙ ap (λ n. wrapping_add n 1) allows.uncounted) store.Database x
+  right_refused store.NotOurs allows of x = absurd (elim of [ inl e ↦ cc | inr e ↦ cc ])
+  right_refused store.Full allows of x = absurd (elim of [ inl e ↦ cc | inr e ↦ cc ])
+  right_refused store.Backwards allows of x = absurd (elim of [ inl e ↦ cc | inr e ↦ cc ])
 
-hidden : (s : Setting) (account : List ℕ) (n : ℕ) (reader : Reader) (entry : Entry) (b : History) (x : Obstacle)
-    → IsOfRight reader x → MayNot s.file account reader n b x
-    → righted s account n reader entry (hindered x) b ≡ only (Refused (fault_with x))
-hidden s account n reader entry b obstacle.NotHere of may =
-    ap (right_effect s.file account reader (all_fine (Ok [])) entry) may
-hidden s account n reader entry b obstacle.NotOwner of may =
-    right_is s.file account reader (all_fine (Ok [])) entry may.0 (seen_by (viewer_in s.file account) n b) false
-    (objection s.file account reader) refl may.1.0 may.1.1 refl
-hidden s account n reader entry b obstacle.UnknownReader of may =
-    turned s.file account reader (all_fine (Ok [])) entry may.0 (seen_by (viewer_in s.file account) n b)
-    fault.UnknownReader refl may.1.0.seen may.1.0.owns may.1.1
-hidden s account n reader entry b obstacle.UnknownGroup of may =
-    turned s.file account reader (all_fine (Ok [])) entry may.0 (seen_by (viewer_in s.file account) n b)
-    fault.UnknownGroup refl may.1.0.seen may.1.0.owns may.1.1
-hidden s account n reader entry b obstacle.SelfGrant of may =
-    turned s.file account reader (all_fine (Ok [])) entry may.0 (seen_by (viewer_in s.file account) n b)
-    fault.SelfGrant refl may.1.0.seen may.1.0.owns may.1.1
-hidden s account n reader entry b (obstacle.Searching store.Memory) of may = refl
-hidden s account n reader entry b (obstacle.Searching store.Database) of may = refl
-hidden s account n reader entry b (obstacle.Searching store.NotOurs) of may = absurd (elim of [ inl e ↦ cc | inr e ↦ cc ])
-hidden s account n reader entry b (obstacle.Searching store.Full) of may = absurd (elim of [ inl e ↦ cc | inr e ↦ cc ])
-hidden s account n reader entry b (obstacle.Searching store.Backwards) of may = absurd (elim of [ inl e ↦ cc | inr e ↦ cc ])
-hidden s account n reader entry b (obstacle.Looking store.Memory) of may =
-    ap (right_effect s.file account reader (hindered (obstacle.Looking store.Memory)) entry) may.1
-hidden s account n reader entry b (obstacle.Looking store.Database) of may =
-    ap (right_effect s.file account reader (hindered (obstacle.Looking store.Database)) entry) may.1
-hidden s account n reader entry b (obstacle.Looking store.NotOurs) of may = absurd (elim of [ inl e ↦ cc | inr e ↦ cc ])
-hidden s account n reader entry b (obstacle.Looking store.Full) of may = absurd (elim of [ inl e ↦ cc | inr e ↦ cc ])
-hidden s account n reader entry b (obstacle.Looking store.Backwards) of may = absurd (elim of [ inl e ↦ cc | inr e ↦ cc ])
-hidden s account n reader entry b obstacle.OutOfMemory of may = absurd of
-hidden s account n reader entry b (obstacle.Adding f) of may = absurd of
-
--- the look-ups tell why it isn't
-pub right_denied : {B : Type 0} (g : Ghosts B) (s : Setting) (c : Command) (account : List ℕ) (reader : Reader)
-    (n : ℕ) (entry : Entry) (old new : B) (x : Obstacle) → IsRighting s c account n reader entry
-    → ((searching looking : Call) → IsFit c (looked_up searching looking)) → ((f : Fault) → IsOpened g c (Refused f) new)
-    → IsOfRight reader x → OnlyLooks g old new
-    → g.fault_count new ≡ faults_after (hindered x) (g.fault_count old)
-    → (g.honest new → (b : History) → Stands g b old → MayNot s.file account reader n b x)
-    → StepsBy g no_signer s c (hindered x) old new (Refused (fault_with x))
-right_denied g s c account reader n entry old new x righting fits opened of looks counted may =
-    denied reader g s c old new x fits opened of looks counted
-    (λ honest b st. righting (hindered x) b (only (Refused (fault_with x)))
-    (sym (hidden s account n reader entry b x of (may honest b st))))
-
--- the store refuses to add it by this fault
-refused_as : {B : Type 0} (g : Ghosts B) (s : Setting) (c : Command) (account : List ℕ) (reader : Reader) (n : ℕ)
-    (entry : Entry) (old mid new : B) (o : Outcome) (cause : Cause) → Allows g s c account reader n entry old mid new
-    → cause_of o.searching ≡ None → cause_of o.looking ≡ None → cause_of o.adding ≡ Some cause
-    → cause_of (committed o).searching ≡ None → cause_of (committed o).looking ≡ None
-    → cause_of (committed o).adding ≡ None → (o.adding ≡ Fine → o.sealing ≡ Fine → ⊥) → IsFit c o
-    → ((f : Fault) → IsOpened g c (Refused f) new) → IsBlamed g c o old new (Refused (fault_of cause))
-    → g.fault_count new ≡ faults_after o (g.fault_count old) → (f : StoreFault)
-    → Appends {A = Unit {0}} g (entry ∷ []) mid new (Err f)
-    → StepsBy g no_signer s c o old new (Refused (fault_of cause))
-refused_as g s c account reader n entry old mid new o cause a searched looked why also_searched also_looked answered
-    was_refused fits opened blames counted f x = record {
-      fits = fits;
-      counted = counted;
-      signer = tt;
-      blames = blames;
-      opened = λ honest. opened (fault_of cause);
-      steps = λ honest b st met.
-          let m = a.may (x.honest honest) b st in
-          let stood = a.looks.stands b st in
-          record {
-            effect = only (Refused (fault_of cause));
-            has = a.righting o b (only (Refused (fault_of cause)))
-                (sym (made s account reader n b entry o m searched looked (Some cause) why));
-            says = refl;
-            moves = refl;
-            stands = x.err b stood;
-            left = λ left r. elim (x.crash honest left r) [
-              | inl same ↦ inl (refl, a.looks.leaves (x.honest honest) left same)
-              | inr adds ↦ inr (inr (record {
-                refused = was_refused;
-                doubted = accepted entry;
-                has = a.righting (committed o) b (accepted entry)
-                    (sym (made s account reader n b entry (committed o) m also_searched also_looked None answered));
-                holds = subst (λ es. g.holds left (es ++ b)) (sym (one_in_doubt o.adding entry))
-                    (adds b stood (a.fits b (right_seen (viewer_in s.file account) n b m.deposit m.own.seen), tt));
-              }))
-            ];
-          };
-    }
-
-right_refused : {B : Type 0} (g : Ghosts B) (s : Setting) (c : Command) (account : List ℕ) (reader : Reader)
-    (n : ℕ) (entry : Entry) (old mid new : B) (f : StoreFault) → Allows g s c account reader n entry old mid new
-    → ((call : Call) → IsFit c (record (all_fine (Ok [])) { adding = call }))
-    → ((f : Fault) → IsOpened g c (Refused f) new) → IsOfStorage f
-    → Appends {A = Unit {0}} g (entry ∷ []) mid new (Err f)
-    → StepsBy g no_signer s c (hindered (obstacle.Adding f)) old new (Refused (fault_with (obstacle.Adding f)))
-right_refused g s c account reader n entry old mid new store.Memory a fits opened of x =
-    refused_as g s c account reader n entry old mid new (hindered (obstacle.Adding store.Memory)) OfMemory a refl refl
-    refl refl refl refl (λ fine sealed. cc) (fits OutOfMemory) opened (none_failed _ tt tt tt tt tt tt tt tt)
-    (x.faults ∙ a.uncounted) store.Memory x
-right_refused g s c account reader n entry old mid new store.Database a fits opened of x =
-    refused_as g s c account reader n entry old mid new (hindered (obstacle.Adding store.Database)) OfStore a refl refl
-    refl refl refl refl (λ fine sealed. cc) (fits Failed) opened (inl (inr (inr (inr (inr (inl refl))))))
-    (x.faults ∙ ap (λ n. wrapping_add n 1) a.uncounted) store.Database x
-right_refused g s c account reader n entry old mid new store.NotOurs a fits opened of x =
-    absurd (elim of [ inl e ↦ cc | inr e ↦ cc ])
-right_refused g s c account reader n entry old mid new store.Full a fits opened of x =
-    absurd (elim of [ inl e ↦ cc | inr e ↦ cc ])
-right_refused g s c account reader n entry old mid new store.Backwards a fits opened of x =
-    absurd (elim of [ inl e ↦ cc | inr e ↦ cc ])
-
--- what the store answers to it is told
-pub right_told : {B : Type 0} (g : Ghosts B) (s : Setting) (c : Command) (account : List ℕ) (reader : Reader) (n : ℕ)
-    (entry : Entry) (old mid new : B) (r : Result (Unit {0}) StoreFault)
-    → Allows g s c account reader n entry old mid new
-    → ((call : Call) → IsFit c (record (all_fine (Ok [])) { adding = call }))
-    → ((f : Fault) → IsOpened g c (Refused f) new) → IfErr r IsOfStorage
-    → Appends {A = Unit {0}} g (entry ∷ []) mid new r
-    → StepsBy g no_signer s c (outcome_with (wrapped obstacle.Adding r)) old new
-    (told_with done_as (wrapped obstacle.Adding r))
-right_told g s c account reader n entry old mid new (Ok tt) a fits opened of x =
-    right_entered g s c account reader n entry old mid new a x
-right_told g s c account reader n entry old mid new (Err f) a fits opened of x =
-    right_refused g s c account reader n entry old mid new f a fits opened of x
+  -- what the store answers to it is told
+  pub right_told : (r : Result (Unit {0}) StoreFault) → Allows → IfErr r IsOfStorage → Adds r
+      → Changes (outcome_with (wrapped obstacle.Adding r)) new (told_with done_as (wrapped obstacle.Adding r))
+  right_told (Ok tt) allows of x = right_entered allows x
+  right_told (Err f) allows of x = right_refused f allows of x

@@ -1,19 +1,25 @@
 -- What is proved of a desk's parts is said of the desk.
-use Rattle.std.proofs.Common.{◌≡◌, ◌∙◌, [], Result, Ok, Err, refl, sym, ap, subst}
+use Rattle.std.proofs.Common.{◌≡◌, ◌∙◌, ℕ, [], Result, Ok, Err, refl, sym, ap, subst}
 use Rattle.std.specs.Result.{IsErrAnd}
 use Rattle.book.specs.declared.standing.Standing.{Ghosts}
 use Rattle.book.specs.History.{History}
+use Rattle.book.specs.Readers.{Reader}
 use Rattle.book.specs.Sound.{IsSound}
 use Rattle.desk.specs.Answers.{answered}
+use Rattle.desk.specs.Asked.{right_command}
 use Rattle.desk.specs.Command.{InForce, Setting, Command, Succeed, Answer, Done, Refused, setting_after}
-use Rattle.desk.specs.Obstacles.{fault_with, hindered}
+use Rattle.desk.specs.Obstacles.{fault_with, hindered, outcome_with, told_with}
 use Rattle.desk.specs.declared.fault.Fault.{Fault}
 use Rattle.desk.specs.declared.obstacle.Obstacle.{Obstacle}
+use Rattle.desk.specs.declared.rights.Change.{Change}
+use Rattle.desk.specs.declared.rights.Change.TheVariants.{Give, Take}
 use Rattle.desk.specs.Effects.{Effect}
 use Rattle.desk.specs.Outcome.{Outcome, all_fine}
 use Rattle.desk.specs.Promises.{KeepsPromises}
 use Rattle.desk.specs.MachineStep.{HasEffect}
 use Rattle.desk.specs.CallContract.{DeskValue, desk_of, SignerStep, no_signer, StepsBy, IsStepBy, IsStep, HasOpened}
+use Rattle.desk.proofs.Wrapped.{IsWrapped, wrapped, wrapped_is}
+use Rattle.policy.specs.Record.{AccountValue}
 
 -- what is promised of each command
 abbrev pub ArePromises : Type 0
@@ -32,6 +38,11 @@ promised g promises t s c o old new answer by = record {
 abbrev pub StaysUnder : Command → Type 0
 StaysUnder c = (s : Setting) (a : Answer) → setting_after s c a ≡ s
 
+pub right_stays : (change : Change) (account : AccountValue) (number : ℕ) (reader : Reader)
+    → StaysUnder (right_command change account number reader)
+right_stays Give account number reader s a = refl
+right_stays Take account number reader s a = refl
+
 pub steps_opened : {B : Type 0} (g : Ghosts B) → ArePromises → (t : SignerStep) (seen now : DeskValue B)
     (one other : Command) (o : Outcome) (new : B) (said says : Answer) → StaysUnder other → seen ≡ now → one ≡ other
     → says ≡ said → StepsBy g t seen.setting one o seen.store new said
@@ -44,6 +55,22 @@ steps_opened g promises t seen now one other o new said says stays same command 
       (subst (λ c. StepsBy g t seen.setting c o seen.store new says) command
       (subst (λ a. StepsBy g t seen.setting one o seen.store new a) (sym answer) step)));
 }
+
+answered_as : {A : Type 0} (as_answer : A → Answer) (r : Result A Obstacle)
+    → answered as_answer (wrapped fault_with r) ≡ told_with as_answer r
+answered_as as_answer (Ok x) = refl
+answered_as as_answer (Err x) = refl
+
+-- what a part answers is told, and its obstacle as a fault
+pub steps_told : {A B : Type 0} (g : Ghosts B) → ArePromises → (seen now : DeskValue B) (c : Command)
+    (as_answer : A → Answer) (r : Result A Obstacle) (told : Result A Fault) (new : B) → StaysUnder c → seen ≡ now
+    → IsWrapped fault_with r told
+    → StepsBy g no_signer seen.setting c (outcome_with r) seen.store new (told_with as_answer r)
+    → IsStep g no_signer c now (record { setting = seen.setting; store = new }) (answered as_answer told)
+steps_told g promises seen now c as_answer r told new stays same is step =
+    steps_opened g promises no_signer seen now c c (outcome_with r) new (told_with as_answer r)
+    (answered as_answer told) stays same refl
+    (ap (answered as_answer) (wrapped_is fault_with r told is) ∙ answered_as as_answer r) step
 
 -- an opening, and one that is refused
 pub opens_by : {B : Type 0} (g : Ghosts B) → ArePromises → (s : Setting) (old new : B)

@@ -1,8 +1,11 @@
 -- Which command of the machine a command of the program is, and which answer its answer is.
-use Rattle.std.specs.Prelude.{List, map}
+use Rattle.std.specs.Prelude.{ℕ, List, map}
+use Rattle.policy.specs.Record.{AccountValue}
 use Rattle.policy.specs.View.{account_view}
 use Rattle.decide.specs.View.{account_asked}
-use Rattle.book.specs.Readers.{Account, Group}
+use Rattle.book.specs.Entries.{reader_view}
+use Rattle.book.specs.History.{Entry, Granted, Revoked}
+use Rattle.book.specs.Readers.{Reader}
 use Rattle.book.specs.Values.{calibration_view, hold_view}
 use Rattle.desk.specs.Command as machine
 use Rattle.desk.specs.Answers.{reply_as}
@@ -12,6 +15,17 @@ use Rattle.desk.specs.declared.commands.Command.{Command}
 use Rattle.desk.specs.declared.commands.Command.TheVariants as command
 use Rattle.desk.specs.declared.commands.Answer.{Answer}
 use Rattle.desk.specs.declared.commands.Answer.TheVariants as answer
+use Rattle.desk.specs.declared.rights.Change.{Change}
+use Rattle.desk.specs.declared.rights.Change.TheVariants.{Give, Take}
+
+-- the command that gives or takes a right, and the entry that it adds
+abbrev pub right_command : Change → AccountValue → ℕ → Reader → machine.Command
+right_command Give account number reader = machine.Grant account number reader
+right_command Take account number reader = machine.Revoke account number reader
+
+abbrev pub right_entry : Change → ℕ → Reader → Entry
+right_entry Give number reader = Granted number reader
+right_entry Take number reader = Revoked number reader
 
 abbrev pub command_view : Command → machine.Command
 command_view (command.Stamp account reading query) = machine.Stamp (account_asked account) reading query.now
@@ -21,13 +35,9 @@ command_view (command.Show account number) = machine.Show (account_view account.
 command_view (command.Token account number) = machine.Token (account_view account.now) number
 command_view (command.List account) = machine.ListAll (account_view account.now)
 command_view (command.Grant account number reader) =
-    machine.Grant (account_view account.now) number (Account reader.now)
+    machine.Grant (account_view account.now) number (reader_view reader)
 command_view (command.Revoke account number reader) =
-    machine.Revoke (account_view account.now) number (Account reader.now)
-command_view (command.GrantGroup account number group) =
-    machine.Grant (account_view account.now) number (Group group.now)
-command_view (command.RevokeGroup account number group) =
-    machine.Revoke (account_view account.now) number (Group group.now)
+    machine.Revoke (account_view account.now) number (reader_view reader)
 command_view (command.Calibrate calibration) = machine.Calibrate (calibration_view calibration)
 command_view (command.Hold hold) = machine.Hold (hold_view hold)
 command_view (command.Succeed identity algorithm) = machine.Succeed (in_force_of identity.now algorithm.now)

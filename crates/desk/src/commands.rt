@@ -1,6 +1,6 @@
 use crate::fault::Fault;
 use crate::reply::{Deposited, Reply};
-use book::{Calibration, Hold, Listed};
+use book::{Calibration, Hold, Listed, Reader};
 use cms::{Algorithm, Identity};
 use policy::Account;
 
@@ -46,41 +46,23 @@ pub enum Command<'a, 'p> {
         /// Who asks.
         account: &'a Account,
     },
-    /// `grant`.
+    /// `grant`, or `grant_group`.
     Grant {
         /// Who asks.
         account: &'a Account,
         /// The deposit's number.
         number: u64,
-        /// The name of the account that is to see it.
-        reader: &'a str,
+        /// The account, or the group whose members are to see it.
+        reader: Reader<'a>,
     },
-    /// `revoke`.
+    /// `revoke`, or `revoke_group`.
     Revoke {
         /// Who asks.
         account: &'a Account,
         /// The deposit's number.
         number: u64,
-        /// The name of the account that isn't to see it.
-        reader: &'a str,
-    },
-    /// `grant_group`.
-    GrantGroup {
-        /// Who asks.
-        account: &'a Account,
-        /// The deposit's number.
-        number: u64,
-        /// The name of the group whose members are to see it.
-        group: &'a str,
-    },
-    /// `revoke_group`.
-    RevokeGroup {
-        /// Who asks.
-        account: &'a Account,
-        /// The deposit's number.
-        number: u64,
-        /// The name of the group whose members aren't to see it.
-        group: &'a str,
+        /// The account, or the group whose members aren't to see it.
+        reader: Reader<'a>,
     },
     /// Adds a calibration of the clock, with an uncertainty of at most 10^12 microseconds. One whose reading is before
     /// that of the latest is refused with `Store`.
@@ -107,7 +89,7 @@ pub enum Answer {
     Shown(Vec<u8>),
     /// To `List`: the deposits that the account sees, by number.
     Listed(Vec<Listed>),
-    /// To `Grant`, `Revoke`, `GrantGroup`, `RevokeGroup` and `Succeed`: it is done.
+    /// To `Grant`, `Revoke` and `Succeed`: it is done.
     Done,
     /// To `Calibrate` and `Hold`: it is added, and this is its number; calibrations count 1, 2, 3 and so on, and so do
     /// holds.

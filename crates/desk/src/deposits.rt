@@ -2,8 +2,10 @@
 ghost use Rattle.std.specs.Prelude.{◌≡◌, ◌⊎◌, ◌<◌, length, Err, IfErr};
 ghost use Rattle.std.specs.Io.KnownBytes.{Keeps};
 ghost use Rattle.policy.specs.View.{account_view};
+ghost use Rattle.book.specs.Entries.{reader_view};
 ghost use Rattle.book.specs.Readers.{Account as Named, Group};
 ghost use Rattle.desk.specs.Answers.{answered};
+ghost use Rattle.desk.specs.Asked.{right_command};
 ghost use Rattle.desk.specs.CallContract.{IsStep, no_signer, with_signer};
 ghost use Rattle.desk.specs.Command.{Deposit, Show, Token, ListAll, Grant, Revoke};
 ghost use Rattle.desk.specs.Fault.{IsOfDeposit, IsOfSight, IsOfRight};
@@ -14,7 +16,7 @@ use crate::fault::Fault;
 use crate::laws::steps_keep_their_promises;
 use crate::new_deposit::{Submission, deposit_with};
 use crate::reply::Deposited;
-use crate::rights::{grant_by, revoke_by};
+use crate::rights::{Change, change_by};
 use crate::sight::{list_to, show_to, token_to};
 use book::{Book, Listed, Reader};
 use cms::Signer;
@@ -71,7 +73,7 @@ impl<'p, B: Book + Drop> Desk<'p, B> {
     {
         steps_keep_their_promises();
         let settings = self.settings;
-        Ok(show_to(&mut self.store, settings, account, number)?)
+        show_to(&mut self.store, settings, account, number).map_err(Fault::from)
     }
 
     /// The granted reply (RFC 3161 2.4.2) with the token of a deposit that is visible to the account. Refused as `show`
@@ -84,7 +86,7 @@ impl<'p, B: Book + Drop> Desk<'p, B> {
     {
         steps_keep_their_promises();
         let settings = self.settings;
-        Ok(token_to(&mut self.store, self.alloc, settings, account, number)?)
+        token_to(&mut self.store, self.alloc, settings, account, number).map_err(Fault::from)
     }
 
     /// The deposits that are visible to the account, by number: number, owner, reference and genTime in microseconds of
@@ -113,7 +115,27 @@ impl<'p, B: Book + Drop> Desk<'p, B> {
     {
         steps_keep_their_promises();
         let settings = self.settings;
-        Ok(list_to(&mut self.store, settings, account, output)?)
+        list_to(&mut self.store, settings, account, output).map_err(Fault::from)
+    }
+
+    /// Gives a reader the right to see a deposit, or takes it: what the four calls do that follow, and refused as these
+    /// are.
+    pub fn change_right(
+        &mut self,
+        account: &Account,
+        number: u64,
+        reader: Reader<'_>,
+        change: Change,
+    ) -> Result<(), Fault>
+        ensures honest { B.honest self.new.store → B.honest self.old.store }
+        ensures refusals { IfErr result (IsOfRight (reader_view reader.entry)) }
+        ensures step { IsStep B.Standing no_signer
+            (right_command change (account_view account.now) number (reader_view reader.entry)) self.old self.new
+            (answered done_as result) }
+    {
+        steps_keep_their_promises();
+        let settings = self.settings;
+        change_by(&mut self.store, settings, account, number, reader, change).map_err(Fault::from)
     }
 
     /// Lets the account of a name see a deposit, from now on; again is accepted, and changes nothing. It may be one
@@ -128,11 +150,7 @@ impl<'p, B: Book + Drop> Desk<'p, B> {
         ensures step { IsStep B.Standing no_signer (Grant (account_view account.now) number (Named name.now))
             self.old self.new (answered done_as result) }
     {
-        steps_keep_their_promises();
-        let settings = self.settings;
-        let reader = Reader::Account(name);
-        grant_by(&mut self.store, settings, account, number, reader)?;
-        Ok(())
+        self.change_right(account, number, Reader::Account(name), Change::Give)
     }
 
     /// Takes that right away, from now on; one that wasn't granted may be taken too, which changes nothing. A member of
@@ -144,12 +162,9 @@ impl<'p, B: Book + Drop> Desk<'p, B> {
         ensures step { IsStep B.Standing no_signer (Revoke (account_view account.now) number (Named name.now))
             self.old self.new (answered done_as result) }
     {
-        steps_keep_their_promises();
-        let settings = self.settings;
-        let reader = Reader::Account(name);
-        revoke_by(&mut self.store, settings, account, number, reader)?;
-        Ok(())
+        self.change_right(account, number, Reader::Account(name), Change::Take)
     }
+
     /// Lets the members of a group see a deposit, from now on, those that the policy file names at the time; again is
     /// accepted, and changes nothing. The owner may be among them.
     ///
@@ -162,11 +177,7 @@ impl<'p, B: Book + Drop> Desk<'p, B> {
         ensures step { IsStep B.Standing no_signer (Grant (account_view account.now) number (Group name.now))
             self.old self.new (answered done_as result) }
     {
-        steps_keep_their_promises();
-        let settings = self.settings;
-        let group = Reader::Group(name);
-        grant_by(&mut self.store, settings, account, number, group)?;
-        Ok(())
+        self.change_right(account, number, Reader::Group(name), Change::Give)
     }
 
     /// Takes that right away, from now on; a member who is a reader by its own name stays one. A right that wasn't
@@ -178,10 +189,6 @@ impl<'p, B: Book + Drop> Desk<'p, B> {
         ensures step { IsStep B.Standing no_signer (Revoke (account_view account.now) number (Group name.now))
             self.old self.new (answered done_as result) }
     {
-        steps_keep_their_promises();
-        let settings = self.settings;
-        let group = Reader::Group(name);
-        revoke_by(&mut self.store, settings, account, number, group)?;
-        Ok(())
+        self.change_right(account, number, Reader::Group(name), Change::Take)
     }
 }

@@ -52,4 +52,5 @@ pub use laws::{
 };
 pub use pending::Pending;
 pub use reply::{Begun, Deposited, Reply};
+pub use rights::Change;
 pub use settings::{Settings, has_subject};

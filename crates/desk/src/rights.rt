@@ -1,12 +1,12 @@
 //! Who gives and takes rights.
 ghost use Rattle.std.specs.Prelude.{◌≡◌, None, IfErr, MatchResult};
 ghost use Rattle.policy.specs.View.{account_view, policy_view};
-ghost use Rattle.book.specs.Entries.{reader_view};
+ghost use Rattle.book.specs.Entries.{entry_view, reader_view};
 ghost use Rattle.book.specs.History.{History};
 ghost use Rattle.book.specs.Stands.{Stands, OnlyLooks};
+ghost use Rattle.desk.specs.Asked.{right_command, right_entry};
 ghost use Rattle.desk.specs.CallContract.{StepsBy, no_signer};
 ghost use Rattle.desk.specs.Calls.{settings_view};
-ghost use Rattle.desk.specs.Command.{Grant, Revoke};
 ghost use Rattle.desk.specs.Effects.{has_account, has_group, objection};
 ghost use Rattle.desk.specs.Fault as refused;
 ghost use Rattle.desk.specs.Obstacles.{fault_with, outcome_with, told_with, IsOfRight, IsOpposed, MayName, MayNot};
@@ -18,6 +18,27 @@ use crate::settings::Settings;
 use crate::sight::see;
 use book::{Book, Entry, Reader};
 use policy::{Account, Policy};
+
+/// What an account does with a reader's right to see a deposit.
+#[derive(Clone, Copy)]
+pub enum Change {
+    /// It gives the right.
+    Give,
+    /// It takes the right away.
+    Take,
+}
+
+impl Change {
+    /// The entry that does so.
+    fn entry(self, number: u64, reader: Reader<'_>) -> Entry<'_>
+        ensures { entry_view result ≡ right_entry self number (reader_view reader.entry) }
+    {
+        match self {
+            Change::Give => Entry::Granted { number, reader },
+            Change::Take => Entry::Revoked { number, reader },
+        }
+    }
+}
 
 /// Whether the policy file has an account of that name, active or not.
 fn is_known(policy: &Policy, name: &str) -> bool
@@ -81,44 +102,24 @@ fn may_name<B: Book + Drop>(
     may_read(policy, account, reader)
 }
 
-/// Lets a reader see a deposit, from now on.
-pub(crate) fn grant_by<B: Book + Drop>(
+/// Gives a reader the right to see a deposit, or takes it, from now on.
+pub(crate) fn change_by<B: Book + Drop>(
     store: &mut B,
     settings: Settings<'_>,
     account: &Account,
     number: u64,
     reader: Reader<'_>,
+    change: Change,
 ) -> Result<(), Obstacle>
     ensures honest { B.honest store.new → B.honest store.old }
     ensures step { StepsBy B.Standing no_signer (settings_view settings.entry)
-        (Grant (account_view account.now) number (reader_view reader.entry)) (outcome_with result) store.old store.new
-        (told_with done_as result) }
+        (right_command change (account_view account.now) number (reader_view reader.entry)) (outcome_with result)
+        store.old store.new (told_with done_as result) }
     ensures refusals { IfErr result (λ obstacle. refused.IsOfRight (reader_view reader.entry) (fault_with obstacle)) }
 {
     let policy = settings.policy;
     may_name(store, policy, account.name.as_str(), number, reader)?;
     store
-        .append(&[Entry::Granted { number, reader }])
-        .map_err(Obstacle::Adding)
-}
-
-/// Takes that right away, from now on.
-pub(crate) fn revoke_by<B: Book + Drop>(
-    store: &mut B,
-    settings: Settings<'_>,
-    account: &Account,
-    number: u64,
-    reader: Reader<'_>,
-) -> Result<(), Obstacle>
-    ensures honest { B.honest store.new → B.honest store.old }
-    ensures step { StepsBy B.Standing no_signer (settings_view settings.entry)
-        (Revoke (account_view account.now) number (reader_view reader.entry)) (outcome_with result) store.old store.new
-        (told_with done_as result) }
-    ensures refusals { IfErr result (λ obstacle. refused.IsOfRight (reader_view reader.entry) (fault_with obstacle)) }
-{
-    let policy = settings.policy;
-    may_name(store, policy, account.name.as_str(), number, reader)?;
-    store
-        .append(&[Entry::Revoked { number, reader }])
+        .append(&[change.entry(number, reader)])
         .map_err(Obstacle::Adding)
 }

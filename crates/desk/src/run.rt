@@ -17,12 +17,12 @@ use crate::fault::Fault;
 use crate::new_deposit::{Submission, deposit_with};
 use crate::obstacle::Obstacle;
 use crate::reply::Deposited;
-use crate::rights::{grant_by, revoke_by};
+use crate::rights::{Change, change_by};
 use crate::settings::{Settings, has_subject};
 use crate::sight::{list_to, show_to, token_to};
 use crate::stamp::answer_with;
 use crate::succession::succeed_by;
-use book::{Book, Listed, Reader};
+use book::{Book, Listed};
 use cms::Signer;
 use std::alloc::Global;
 use std::io;
@@ -151,7 +151,7 @@ pub(crate) fn obey<'p, B: Book + Drop, G: Signer>(
             number,
             reader,
         } => (
-            done(grant_by(store, settings, account, number, Reader::Account(reader))),
+            done(change_by(store, settings, account, number, reader, Change::Give)),
             settings,
         ),
         Command::Revoke {
@@ -159,23 +159,7 @@ pub(crate) fn obey<'p, B: Book + Drop, G: Signer>(
             number,
             reader,
         } => (
-            done(revoke_by(store, settings, account, number, Reader::Account(reader))),
-            settings,
-        ),
-        Command::GrantGroup {
-            account,
-            number,
-            group,
-        } => (
-            done(grant_by(store, settings, account, number, Reader::Group(group))),
-            settings,
-        ),
-        Command::RevokeGroup {
-            account,
-            number,
-            group,
-        } => (
-            done(revoke_by(store, settings, account, number, Reader::Group(group))),
+            done(change_by(store, settings, account, number, reader, Change::Take)),
             settings,
         ),
         Command::Calibrate(calibration) => (numbered(calibrate_by(store, &calibration)), settings),

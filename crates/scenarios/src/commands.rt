@@ -43,35 +43,28 @@ fn token<'p>(account: &'p Account, words: &mut Words<'p>) -> Command<'p, 'p> {
     }
 }
 
-fn grant<'p>(account: &'p Account, words: &mut Words<'p>) -> Command<'p, 'p> {
+/// The reader that a word for a right names: a group, if the word says so.
+fn named<'p>(word: &str, words: &mut Words<'p>) -> book::Reader<'p> {
+    let name = words.next();
+    match word {
+        "grant-group" | "revoke-group" => book::Reader::Group(name),
+        _ => book::Reader::Account(name),
+    }
+}
+
+fn grant<'p>(account: &'p Account, word: &str, words: &mut Words<'p>) -> Command<'p, 'p> {
     Command::Grant {
         account,
         number: words.number(),
-        reader: words.next(),
+        reader: named(word, words),
     }
 }
 
-fn revoke<'p>(account: &'p Account, words: &mut Words<'p>) -> Command<'p, 'p> {
+fn revoke<'p>(account: &'p Account, word: &str, words: &mut Words<'p>) -> Command<'p, 'p> {
     Command::Revoke {
         account,
         number: words.number(),
-        reader: words.next(),
-    }
-}
-
-fn grant_group<'p>(account: &'p Account, words: &mut Words<'p>) -> Command<'p, 'p> {
-    Command::GrantGroup {
-        account,
-        number: words.number(),
-        group: words.next(),
-    }
-}
-
-fn revoke_group<'p>(account: &'p Account, words: &mut Words<'p>) -> Command<'p, 'p> {
-    Command::RevokeGroup {
-        account,
-        number: words.number(),
-        group: words.next(),
+        reader: named(word, words),
     }
 }
 
@@ -82,10 +75,8 @@ fn of_rights<'p>(
     words: &mut Words<'p>,
 ) -> Option<Command<'p, 'p>> {
     match word {
-        "grant" => Some(grant(account, words)),
-        "revoke" => Some(revoke(account, words)),
-        "grant-group" => Some(grant_group(account, words)),
-        "revoke-group" => Some(revoke_group(account, words)),
+        "grant" | "grant-group" => Some(grant(account, word, words)),
+        "revoke" | "revoke-group" => Some(revoke(account, word, words)),
         _ => None,
     }
 }

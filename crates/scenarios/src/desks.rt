@@ -1,5 +1,6 @@
 //! Calls of the desk.
 use crate::lists::{tell_list, tell_rows};
+use book::Reader;
 use cms::{Algorithm, Identity, Signer};
 use desk::{Answer, Begun, Command, Desk, Fault, Pending, Reply};
 use policy::Account;
@@ -85,9 +86,13 @@ fn grant<B: Book + Drop>(
     desk: &mut Desk<'_, B>,
     account: &Account,
     number: u64,
-    reader: &str,
+    reader: Reader<'_>,
 ) {
-    printer.tell(&desk.grant(account, number, reader));
+    let outcome = match reader {
+        Reader::Account(name) => desk.grant(account, number, name),
+        Reader::Group(name) => desk.grant_group(account, number, name),
+    };
+    printer.tell(&outcome);
 }
 
 fn revoke<B: Book + Drop>(
@@ -95,29 +100,13 @@ fn revoke<B: Book + Drop>(
     desk: &mut Desk<'_, B>,
     account: &Account,
     number: u64,
-    reader: &str,
+    reader: Reader<'_>,
 ) {
-    printer.tell(&desk.revoke(account, number, reader));
-}
-
-fn grant_group<B: Book + Drop>(
-    printer: Printer<'_>,
-    desk: &mut Desk<'_, B>,
-    account: &Account,
-    number: u64,
-    group: &str,
-) {
-    printer.tell(&desk.grant_group(account, number, group));
-}
-
-fn revoke_group<B: Book + Drop>(
-    printer: Printer<'_>,
-    desk: &mut Desk<'_, B>,
-    account: &Account,
-    number: u64,
-    group: &str,
-) {
-    printer.tell(&desk.revoke_group(account, number, group));
+    let outcome = match reader {
+        Reader::Account(name) => desk.revoke(account, number, name),
+        Reader::Group(name) => desk.revoke_group(account, number, name),
+    };
+    printer.tell(&outcome);
 }
 
 fn succeed<'p, B: Book + Drop>(
@@ -146,16 +135,6 @@ fn call_about_rights<'p, B: Book + Drop>(
             number,
             reader,
         } => revoke(printer, desk, account, number, reader),
-        Command::GrantGroup {
-            account,
-            number,
-            group,
-        } => grant_group(printer, desk, account, number, group),
-        Command::RevokeGroup {
-            account,
-            number,
-            group,
-        } => revoke_group(printer, desk, account, number, group),
         Command::Succeed {
             identity,
             algorithm,

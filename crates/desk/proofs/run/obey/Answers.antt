@@ -1,6 +1,6 @@
 use Rattle.std.proofs.Common.{refl, ◌∙◌, sym, ap, SFits, w64, to_z, of_z, to_z-of_z, rules}
 use Rattle.policy.specs.View.{account_view}
-use Rattle.book.specs.Readers.{Account, Group}
+use Rattle.book.specs.Entries.{reader_view}
 use Rattle.book.specs.Values.{calibration_view, hold_view}
 use Rattle.decide.specs.View.{account_asked}
 use Rattle.desk.specs.Answers.{reply_as, answered}
@@ -68,37 +68,19 @@ pub returns-in-Grant-clause-step : goal.returns-in-Grant-clause-step
 returns-in-Grant-clause-step g c =
     let s = settings_view c.args.settings in
     obeyed_by g.B.Standing g.G.Signer.signs g.G.Signer.fault_count c.args.signer.now s
-    (Grant (account_view c.in-Grant.account.now) c.in-Grant.number (Account c.in-Grant.reader.now))
-    (command_view c.args.command.now) done_as c.grant_by.result c.args.store.now c.grant_by.new.store
+    (Grant (account_view c.in-Grant.account.now) c.in-Grant.number (reader_view c.in-Grant.reader))
+    (command_view c.args.command.now) done_as c.change_by.result c.args.store.now c.change_by.new.store
     (answer_view c.done.result)
-    (λ s a. refl) (λ a. tt) (ap command_view c.in-Grant.is) c.done.ensures c.grant_by.ensures.step
+    (λ s a. refl) (λ a. tt) (ap command_view c.in-Grant.is) c.done.ensures c.change_by.ensures.step
 
 pub returns-in-Revoke-clause-step : goal.returns-in-Revoke-clause-step
 returns-in-Revoke-clause-step g c =
     let s = settings_view c.args.settings in
     obeyed_by g.B.Standing g.G.Signer.signs g.G.Signer.fault_count c.args.signer.now s
-    (Revoke (account_view c.in-Revoke.account.now) c.in-Revoke.number (Account c.in-Revoke.reader.now))
-    (command_view c.args.command.now) done_as c.revoke_by.result c.args.store.now c.revoke_by.new.store
+    (Revoke (account_view c.in-Revoke.account.now) c.in-Revoke.number (reader_view c.in-Revoke.reader))
+    (command_view c.args.command.now) done_as c.change_by-in-Revoke.result c.args.store.now c.change_by-in-Revoke.new.store
     (answer_view c.done-in-Revoke.result)
-    (λ s a. refl) (λ a. tt) (ap command_view c.in-Revoke.is) c.done-in-Revoke.ensures c.revoke_by.ensures.step
-
-pub returns-in-GrantGroup-clause-step : goal.returns-in-GrantGroup-clause-step
-returns-in-GrantGroup-clause-step g c =
-    let s = settings_view c.args.settings in
-    obeyed_by g.B.Standing g.G.Signer.signs g.G.Signer.fault_count c.args.signer.now s
-    (Grant (account_view c.in-GrantGroup.account.now) c.in-GrantGroup.number (Group c.in-GrantGroup.group.now))
-    (command_view c.args.command.now) done_as c.grant_by-in-GrantGroup.result c.args.store.now c.grant_by-in-GrantGroup.new.store
-    (answer_view c.done-in-GrantGroup.result)
-    (λ s a. refl) (λ a. tt) (ap command_view c.in-GrantGroup.is) c.done-in-GrantGroup.ensures c.grant_by-in-GrantGroup.ensures.step
-
-pub returns-in-RevokeGroup-clause-step : goal.returns-in-RevokeGroup-clause-step
-returns-in-RevokeGroup-clause-step g c =
-    let s = settings_view c.args.settings in
-    obeyed_by g.B.Standing g.G.Signer.signs g.G.Signer.fault_count c.args.signer.now s
-    (Revoke (account_view c.in-RevokeGroup.account.now) c.in-RevokeGroup.number (Group c.in-RevokeGroup.group.now))
-    (command_view c.args.command.now) done_as c.revoke_by-in-RevokeGroup.result c.args.store.now c.revoke_by-in-RevokeGroup.new.store
-    (answer_view c.done-in-RevokeGroup.result)
-    (λ s a. refl) (λ a. tt) (ap command_view c.in-RevokeGroup.is) c.done-in-RevokeGroup.ensures c.revoke_by-in-RevokeGroup.ensures.step
+    (λ s a. refl) (λ a. tt) (ap command_view c.in-Revoke.is) c.done-in-Revoke.ensures c.change_by-in-Revoke.ensures.step
 
 pub returns-in-Calibrate-clause-step : goal.returns-in-Calibrate-clause-step
 returns-in-Calibrate-clause-step g c =

@@ -1,29 +1,14 @@
-use Rattle.std.proofs.Common.{[], Ok, refl}
+use Rattle.std.proofs.Common.{refl}
 use Rattle.policy.specs.View.{account_view}
-use Rattle.desk.specs.Answers.{answered}
 use Rattle.desk.specs.Calls.{settings_view}
-use Rattle.desk.specs.Command.{Show, Refused}
-use Rattle.desk.specs.Obstacles.{fault_with, hindered}
-use Rattle.desk.specs.Outcome.{all_fine}
+use Rattle.desk.specs.Command.{Show}
 use Rattle.desk.specs.Shown.{shown_as}
-use Rattle.desk.specs.CallContract.{no_signer}
-use Rattle.desk.proofs.Opened.{steps_opened, refused_as}
+use Rattle.desk.proofs.Opened.{steps_told}
 use Rattle.desk.proofs.desk.Desk.show.Goals as goal
 
 pub returns-clause-step : goal.returns-clause-step
 returns-clause-step g c =
-    let command = Show (account_view c.args.account.now) c.args.number in
-    steps_opened g.B.Standing c.steps_keep_their_promises.ensures no_signer
+    steps_told g.B.Standing c.steps_keep_their_promises.ensures
     (record { setting = settings_view c.self.inside.settings; store = c.self.inside.store }) c.args.self.now
-    command command (all_fine (Ok [])) c.show_to.new.store (shown_as c.in_ok-show_to.field-0) (shown_as c.in_ok-show_to.field-0) (λ s a. refl)
-    c.self.view_is refl refl c.in_ok-show_to.ensures.step
-
-pub returns-in_err-show_to-clause-step : goal.returns-in_err-show_to-clause-step
-returns-in_err-show_to-clause-step g c =
-    let command = Show (account_view c.args.account.now) c.args.number in
-    let x = c.in_err-show_to.field-0.0 in
-    steps_opened g.B.Standing c.steps_keep_their_promises.ensures no_signer
-    (record { setting = settings_view c.self.inside.settings; store = c.self.inside.store }) c.args.self.now
-    command command (hindered x) c.show_to.new.store (Refused (fault_with x))
-    (answered shown_as c.from_residual.result) (λ s a. refl) c.self.view_is refl
-    (refused_as shown_as c.from_residual.result (fault_with x) c.from_residual.ensures.1) c.in_err-show_to.ensures.step
+    (Show (account_view c.args.account.now) c.args.number) shown_as c.show_to.result c.map_err.result c.show_to.new.store (λ s a. refl)
+    c.self.view_is c.map_err.ensures.cases c.show_to.ensures.step
