@@ -17,6 +17,7 @@ use Rattle.service.specs.declared.refusal.Refusal.{Refusal}
 use Rattle.service.specs.declared.refusal.Refusal.TheVariants as refusal
 use Rattle.service.specs.declared.routes.Action.{Action}
 use Rattle.service.specs.declared.routes.Action.TheVariants as action
+use Rattle.desk.specs.declared.rights.Change.TheVariants.{Give, Take}
 use Rattle.service.specs.declared.routes.DepositAction.{DepositAction}
 use Rattle.service.specs.declared.routes.DepositAction.TheVariants as deposit
 
@@ -90,6 +91,8 @@ hold_lasting form =
 of_deposit_met : (account : AccountValue) (number : ℕ) (name : List ℕ) (what : DepositAction) (b : History)
     → IsMetBy b (Ok (asked_of_deposit account number name what))
 of_deposit_met account number name deposit.Readers b = tt
+of_deposit_met account number name (deposit.Right Give kind) b = tt
+of_deposit_met account number name (deposit.Right Take kind) b = tt
 of_deposit_met account number name what b = tt
 
 asked_met : (file : PolicyValue) (reading : ℤ) (h : HeadValue) (body : List ℕ) (a : Action) (b : History)

@@ -4,13 +4,18 @@ use Rattle.std.proofs.Common.{Vec}
 use Rattle.std.specs.declared.alloc.Global.{Global}
 use Rattle.std.specs.Fmt.{decimal}
 use Rattle.book.specs.declared.standing.Standing.{Ghosts}
+use Rattle.book.specs.Readers.{Reader}
+use Rattle.book.specs.Rights.{ListedValue}
 use Rattle.book.specs.Stands.{OnlyLooks}
 use Rattle.cms.specs.declared.signer.SignerFault.{SignerFault}
 use Rattle.desk.specs.Answers.{answered, reply_as}
 use Rattle.desk.specs.Command.{Command, Answer, Stamp, Kept}
 use Rattle.desk.specs.Shown.{deposited_as, done_as, shown_as}
-use Rattle.desk.specs.CallContract.{DeskValue}
+use Rattle.desk.specs.Asked.{right_command}
+use Rattle.desk.specs.CallContract.{DeskValue, IsStep, no_signer}
 use Rattle.desk.specs.declared.fault.Fault.{Fault}
+use Rattle.desk.specs.declared.rights.Change.{Change}
+use Rattle.desk.specs.declared.rights.Change.TheVariants.{Give, Take}
 use Rattle.desk.specs.declared.reply.Deposited.{Deposited}
 use Rattle.desk.specs.declared.reply.Reply.{Reply}
 use Rattle.desk.specs.declared.reply.Reply.TheVariants as reply
@@ -102,6 +107,12 @@ module _ {B X : Type 0} (g : Ghosts B) (signs : X → List ℕ → Result (List 
   shown_told c m is (Err fault) = plainly refl
 
   -- a right that is given or taken, or a refusal
+  pub right_steps : (x x' : X) (change : Change) (account : AccountValue) (number : ℕ) (reader : Reader) (reply : Answer)
+      → IsStep g no_signer (right_command change account number reader) old new reply → x' ≡ x
+      → Steps g signs count old new x x' (right_command change account number reader) reply
+  right_steps x x' Give account number reader reply step same = (step, same)
+  right_steps x x' Take account number reader reply step same = (step, same)
+
   pub right_told : (c : Command) → (outcome : Result (Unit {0}) Fault)
       → Tells g signs count old new c (answered done_as outcome) (done_answer outcome)
   right_told c (Ok done) = plainly refl

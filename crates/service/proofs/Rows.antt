@@ -9,10 +9,11 @@ use Rattle.service.specs.Answers.{answer_text, refusal_answer, crlf, line_feed, 
 use Rattle.service.specs.Checks.{wanted_by, wanted_at, type_in}
 use Rattle.service.specs.Heads.{HeadValue}
 use Rattle.service.specs.Numbers.{is_digits, length_in, number_in}
-use Rattle.service.specs.Routes.{methods_at, names_of, nothing, parameter, routes}
+use Rattle.service.specs.Routes.{methods_at, names_of, nothing, on_right, parameter, routes}
 use Rattle.service.specs.declared.refusal.Refusal.TheVariants as refusal
 use Rattle.service.specs.declared.routes.Action.TheVariants as action
 use Rattle.service.specs.declared.routes.DepositAction.TheVariants as deposit
+use Rattle.service.specs.declared.routes.ReaderKind.TheVariants as kind
 
 -- an answer in text: its status, the length of its body, the line that tells methods, and the body
 abbrev told_in_text : List ℕ → List ℕ → List ℕ → List ℕ → List ℕ
@@ -38,7 +39,7 @@ no_method = refl
 methods : names_of (record nothing { get = Some action.List; post = Some action.Keep }) ≡ codes "GET, POST"
 methods = refl
 
-other_methods : names_of (record nothing { put = Some (action.Deposit deposit.Grant); delete = Some (action.Deposit deposit.Revoke) }) ≡ codes "PUT, DELETE"
+other_methods : names_of (on_right kind.Account) ≡ codes "PUT, DELETE"
 other_methods = refl
 
 -- a deposit that the clock's state refuses
@@ -64,13 +65,11 @@ at_readers : methods_at (codes "/deposits/1/readers") ≡ Some (record nothing {
 unfolding routes matchit_on_literals
 at_readers = refl
 
-at_reader : methods_at (codes "/deposits/1/readers/bob")
-    ≡ Some (record nothing { put = Some (action.Deposit deposit.Grant); delete = Some (action.Deposit deposit.Revoke) })
+at_reader : methods_at (codes "/deposits/1/readers/bob") ≡ Some (on_right kind.Account)
 unfolding routes matchit_on_literals
 at_reader = refl
 
-at_group : methods_at (codes "/deposits/1/groups/staff")
-    ≡ Some (record nothing { put = Some (action.Deposit deposit.GrantGroup); delete = Some (action.Deposit deposit.RevokeGroup) })
+at_group : methods_at (codes "/deposits/1/groups/staff") ≡ Some (on_right kind.Group)
 unfolding routes matchit_on_literals
 at_group = refl
 

@@ -25,6 +25,7 @@ use Rattle.service.specs.declared.head.Head.{Head}
 use Rattle.service.specs.declared.refusal.Refusal.{Refusal}
 use Rattle.service.specs.declared.routes.Action.{Action}
 use Rattle.service.specs.declared.routes.Action.TheVariants as action
+use Rattle.desk.specs.declared.rights.Change.TheVariants.{Give, Take}
 use Rattle.service.specs.declared.routes.DepositAction.TheVariants as deposit
 use Rattle.service.proofs.KnownLemmas.{no_octets}
 use Rattle.service.proofs.ServingLemmas.{answerable}
@@ -40,6 +41,8 @@ no_question : (reading : ℤ) (h : HeadValue) (body : List ℕ) (a : Action) (fo
     → asked_of reading h body a found ≡ Step (stamp_for q) → (a ≡ action.Stamp → ⊥) → ⊥
 no_question reading h body action.Stamp found q is other = other refl
 no_question reading h body (action.Deposit deposit.Readers) found q is other = cc
+no_question reading h body (action.Deposit (deposit.Right Give kind)) found q is other = cc
+no_question reading h body (action.Deposit (deposit.Right Take kind)) found q is other = cc
 no_question reading h body (action.Deposit what) found q is other = cc
 no_question reading h body a found q is other = cc
 

@@ -4,14 +4,14 @@ use Rattle.std.specs.Io.KnownBytes.{Consumes, IsAtEnd}
 use Rattle.httparse.specs.Grammar.{RequestHead, print_request}
 use Rattle.policy.specs.Record.{AccountValue, PolicyValue}
 use Rattle.book.specs.History.{CalibrationValue, HoldValue}
-use Rattle.book.specs.Readers as readers
-use Rattle.desk.specs.Command.{Command, Stamp, Deposit, Show, Token, ListAll, Grant, Revoke, Calibrate, Hold}
+use Rattle.desk.specs.Asked.{right_command}
+use Rattle.desk.specs.Command.{Command, Stamp, Deposit, Show, Token, ListAll, Calibrate, Hold}
 use Rattle.service.specs.Checks.{◌>>=◌, WantedValue, wanted_by, account_shown, active_account, number_stated}
 use Rattle.service.specs.Checks.{reference_stated, range_stated, operator_shown, watcher_shown}
 use Rattle.service.specs.Forms.{calibration_stated, hold_stated}
 use Rattle.service.specs.Heads.{HeadValue, head_value, IsHead, IsBegun, IsHeadless}
 use Rattle.service.specs.Received.{IsPartial}
-use Rattle.service.specs.Routes.{parameter}
+use Rattle.service.specs.Routes.{parameter, reader_of}
 use Rattle.service.specs.declared.refusal.Refusal.{Refusal}
 use Rattle.service.specs.declared.refusal.Refusal.TheVariants as refusal
 use Rattle.service.specs.declared.routes.Action.{Action}
@@ -106,10 +106,8 @@ abbrev pub asked_of_deposit : AccountValue → ℕ → List ℕ → DepositActio
 asked_of_deposit account number name deposit.Show = Step (Show account number)
 asked_of_deposit account number name deposit.Token = Step (Token account number)
 asked_of_deposit account number name deposit.Readers = Look (OfReaders account number)
-asked_of_deposit account number name deposit.Grant = Step (Grant account number (readers.Account name))
-asked_of_deposit account number name deposit.Revoke = Step (Revoke account number (readers.Account name))
-asked_of_deposit account number name deposit.GrantGroup = Step (Grant account number (readers.Group name))
-asked_of_deposit account number name deposit.RevokeGroup = Step (Revoke account number (readers.Group name))
+asked_of_deposit account number name (deposit.Right change kind) =
+    Step (right_command change account number (reader_of kind name))
 
 -- what a request asks for whose checks find this
 abbrev pub asked_of : ℤ → HeadValue → List ℕ → (a : Action) → Found a → Asked

@@ -10,14 +10,30 @@ use Rattle.matchit.specs.Router.{RouteOf, route_from}
 use Rattle.matchit.specs.Rows.{RowsOf}
 use Rattle.matchit.specs.Seek.{first}
 use Rattle.matchit.specs.declared.error.InsertError.{InsertError}
+use Rattle.book.specs.Readers.{Reader, Account, Group}
+use Rattle.desk.specs.declared.rights.Change.TheVariants.{Give, Take}
 use Rattle.service.specs.declared.routes.Methods.{Methods}
 use Rattle.service.specs.declared.routes.Action.{Action}
 use Rattle.service.specs.declared.routes.Action.TheVariants as action
 use Rattle.service.specs.declared.routes.DepositAction.TheVariants as deposit
+use Rattle.service.specs.declared.routes.ReaderKind.{ReaderKind}
+use Rattle.service.specs.declared.routes.ReaderKind.TheVariants as kind
 
 -- no method does anything
 abbrev pub nothing : Methods
 nothing = record { get = None; post = None; put = None; delete = None }
+
+-- what they do with the right of a reader of that kind
+abbrev pub on_right : ReaderKind → Methods
+on_right kind = record nothing {
+  put = Some (action.Deposit (deposit.Right Give kind));
+  delete = Some (action.Deposit (deposit.Right Take kind));
+}
+
+-- the reader of that kind and name
+abbrev pub reader_of : ReaderKind → List ℕ → Reader
+reader_of kind.Account name = Account name
+reader_of kind.Group name = Group name
 
 -- a target's text, in which a name in braces stands for a segment that isn't empty, and what the methods do there
 abbrev pub Line : Type 0
@@ -34,17 +50,8 @@ table =
     ∷ (codes "/deposits/{number}", record nothing { get = Some (action.Deposit deposit.Show) })
     ∷ (codes "/deposits/{number}/token", record nothing { get = Some (action.Deposit deposit.Token) })
     ∷ (codes "/deposits/{number}/readers", record nothing { get = Some (action.Deposit deposit.Readers) })
-    ∷ (
-      codes "/deposits/{number}/readers/{name}",
-      record nothing { put = Some (action.Deposit deposit.Grant); delete = Some (action.Deposit deposit.Revoke) },
-    )
-    ∷ (
-      codes "/deposits/{number}/groups/{name}",
-      record nothing {
-        put = Some (action.Deposit deposit.GrantGroup);
-        delete = Some (action.Deposit deposit.RevokeGroup);
-      },
-    )
+    ∷ (codes "/deposits/{number}/readers/{name}", on_right kind.Account)
+    ∷ (codes "/deposits/{number}/groups/{name}", on_right kind.Group)
     ∷ (codes "/audit/{from}/{to}", record nothing { get = Some action.Extract })
     ∷ []
 

@@ -1,8 +1,12 @@
 //! Targets, and what methods do there.
 ghost use Rattle.std.specs.Prelude.{◌≡◌, map, Option, IfOk, OnOk};
 ghost use Rattle.std.specs.Str.{bytes_eq};
+ghost use Rattle.book.specs.Entries.{reader_view};
 ghost use Rattle.service.specs.Routes.{line_view, table, with_route, routes, methods_at, parameter, action_of};
+ghost use Rattle.service.specs.Routes.{reader_of};
 
+use book::Reader;
+use desk::Change;
 use matchit::{InsertError, Router};
 use std::alloc::{AllocError, Global};
 
@@ -15,14 +19,27 @@ pub(crate) enum DepositAction {
     Token,
     /// Tells its owner who may read it.
     Readers,
-    /// Lets an account see it.
-    Grant,
-    /// Takes that right away.
-    Revoke,
-    /// Lets the members of a group see it.
-    GrantGroup,
-    /// Takes that right away.
-    RevokeGroup,
+    /// Gives the reader of the target's name the right to see it, or takes it.
+    Right(Change, ReaderKind),
+}
+
+/// Whether a target's name is an account's or a group's.
+#[derive(Clone, Copy)]
+pub(crate) enum ReaderKind {
+    Account,
+    Group,
+}
+
+impl ReaderKind {
+    /// The reader of that name.
+    pub(crate) fn named(self, name: &str) -> Reader<'_>
+        ensures { reader_view result ≡ reader_of self name.now }
+    {
+        match self {
+            ReaderKind::Account => Reader::Account(name),
+            ReaderKind::Group => Reader::Group(name),
+        }
+    }
 }
 
 /// What a method does at a target.
@@ -79,6 +96,17 @@ macro_rules! on_deposit {
     };
 }
 
+/// What these methods do with the right of a reader of that kind to see the deposit of a target's number.
+macro_rules! on_right {
+    ($kind:ident) => {
+        Methods {
+            put: Some(Action::Deposit(DepositAction::Right(Change::Give, ReaderKind::$kind))),
+            delete: Some(Action::Deposit(DepositAction::Right(Change::Take, ReaderKind::$kind))),
+            ..NOTHING
+        }
+    };
+}
+
 /// Each target's text, in which a name in braces stands for a segment that isn't empty, and what the methods do there.
 static ROUTES: &[(&str, Methods)] = &[
     ("/tsp", on!(post Stamp)),
@@ -90,14 +118,8 @@ static ROUTES: &[(&str, Methods)] = &[
     ("/deposits/{number}", on_deposit!(get Show)),
     ("/deposits/{number}/token", on_deposit!(get Token)),
     ("/deposits/{number}/readers", on_deposit!(get Readers)),
-    (
-        "/deposits/{number}/readers/{name}",
-        on_deposit!(put Grant, delete Revoke),
-    ),
-    (
-        "/deposits/{number}/groups/{name}",
-        on_deposit!(put GrantGroup, delete RevokeGroup),
-    ),
+    ("/deposits/{number}/readers/{name}", on_right!(Account)),
+    ("/deposits/{number}/groups/{name}", on_right!(Group)),
     ("/audit/{from}/{to}", on!(get Extract)),
 ];
 

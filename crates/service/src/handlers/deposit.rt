@@ -48,20 +48,8 @@ pub(crate) fn answer<W: Output, B: Book + Drop, G: Signer>(
             write_shown(writer, at, Media::Reply, shown)
         }
         DepositAction::Readers => serve_readers(context, writer, desk, account, number),
-        DepositAction::Grant => {
-            let outcome = desk.grant(account, number, name);
-            write_done(writer, at, outcome)
-        }
-        DepositAction::Revoke => {
-            let outcome = desk.revoke(account, number, name);
-            write_done(writer, at, outcome)
-        }
-        DepositAction::GrantGroup => {
-            let outcome = desk.grant_group(account, number, name);
-            write_done(writer, at, outcome)
-        }
-        DepositAction::RevokeGroup => {
-            let outcome = desk.revoke_group(account, number, name);
+        DepositAction::Right(change, kind) => {
+            let outcome = desk.change_right(account, number, kind.named(name), change);
             write_done(writer, at, outcome)
         }
     }
