@@ -12,13 +12,12 @@ use Rattle.book.specs.History.{greatest_serial}
 use Rattle.book.specs.Sound.{FitsReserved, IsSound}
 use Rattle.desk.specs.Batches.{Question, stamp_for, seals, with_reserved, HaveEffects}
 use Rattle.desk.specs.Batches.{all_reserved, all_sealed, MoveInTurn}
-use Rattle.desk.specs.Beginnings.{ByRule, ByCause, rule_by}
 use Rattle.desk.specs.Command.{Setting, PendingValue, Answer, Begin, Rejected}
 use Rattle.desk.specs.Completions.{Completion, finished, completed, seals_of, texts_of, AreWaiting}
-use Rattle.desk.specs.Effects.{Effect, only, name_of, in_seal, for_reply}
+use Rattle.desk.specs.Effects.{Effect, only, name_of, in_seal, for_reply, rule_by}
 use Rattle.desk.specs.Findings.{Fails, Allowed}
 use Rattle.desk.specs.Fit.{IsFit, IsUncounted}
-use Rattle.desk.specs.Outcome.{Call, Fine, Outcome, Cause, all_fine}
+use Rattle.desk.specs.Outcome.{Call, Fine, Outcome, Cause, ByRule, ByCause, all_fine}
 use Rattle.desk.specs.MachineStep.{HasEffect, IsWaiting}
 use Rattle.desk.specs.Verdicts.{Verdict, Settled, Waits, JudgedStamp, rule_of, rules_of, met_by, waiting_before}
 use Rattle.desk.specs.Together.{AreFit}

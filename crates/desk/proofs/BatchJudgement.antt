@@ -1,7 +1,8 @@
 -- Stamps of a batch are judged one after the other.
-use Rattle.std.proofs.Common.{◌≡◌, ◌<◌, ◌≤◌, nat_le, cond, ℕ, ◌+◌, List, [], ◌∷◌, ◌++◌, length, Option, Some, None, Ok}
-use Rattle.std.proofs.Common.{Bool, true, false, inl, inr, refl, sym, ap, ◌∙◌, subst, take, get_or, arith}
+use Rattle.std.proofs.Common.{◌≡◌, ◌<◌, ◌≤◌, nat_le, cond, ℕ, ◌+◌, List, [], ◌∷◌, ◌++◌, length, Option, Some, None}
+use Rattle.std.proofs.Common.{Ok, Err, Bool, true, false, inl, inr, refl, sym, ap, ◌∙◌, subst, take, get_or, arith}
 use Rattle.std.specs.List.{AllByRecursion}
+use Rattle.std.specs.Prelude.{Result, IfOk, IfErr}
 use Rattle.std.proofs.lemmas.Bool.Decides.{nat_tests}
 use Rattle.std.proofs.lemmas.List.{take_more, map-append}
 use Rattle.policy.specs.Record.{AccountValue}
@@ -13,19 +14,19 @@ use Rattle.book.specs.History.{History, greatest_serial}
 use Rattle.book.specs.Sound.{FitsReserved, IsSound, greatest_number}
 use Rattle.book.specs.Stands.{Stands, OnlyLooks}
 use Rattle.desk.specs.Batches.{Question, faults_along}
-use Rattle.desk.specs.Beginnings.{ByRule, ByCause, IsUnreserved, IsAwaited, WaitsFor, IsUnwritten, IsOfJudging}
-use Rattle.desk.specs.Calls.{IsSomebodys, refused, cause_with}
+use Rattle.desk.specs.Beginnings.{IsSettled, IsAwaited, WaitsFor, IsUnwritten, IsOfJudging}
+use Rattle.desk.specs.Calls.{IsSomebodys, finding_by, refused, why_of}
 use Rattle.desk.specs.Command.{Setting, Begin}
-use Rattle.desk.specs.Effects.{name_of, no_number}
-use Rattle.desk.specs.Findings.{StampPlan, HoldsUnasked, Fails, Unanswered, Allowed, Finds}
+use Rattle.desk.specs.Effects.{name_of, no_number, rule_by}
+use Rattle.desk.specs.Findings.{StampPlan, HoldsUnasked, Unanswered, Allowed, Finds}
 use Rattle.desk.specs.Fit.{IsFit, AreGrowths, counting_for}
 use Rattle.desk.specs.Outcome.{Call, Fine, OutOfMemory, Failed, Outcome, Cause, OfMemory, OfStore, cause_of}
-use Rattle.desk.specs.Outcome.{first_cause, all_fine, faults_after}
+use Rattle.desk.specs.Outcome.{Refusal, ByRule, ByCause, first_cause, all_fine, faults_after}
 use Rattle.desk.specs.Texts.{tst_of, reservation_of}
 use Rattle.desk.specs.Together.{question_view, questions_view}
 use Rattle.desk.specs.Verdicts.{Verdict, Settled, Waits, JudgedStamp, rule_of}
 use Rattle.desk.specs.Verdicts.{looks_of, all_looks, waiting_before, waits_of, reserved_for, IsJudgedAs}
-use Rattle.desk.specs.Verdicts.{AreJudged, IsJudgedRightly, JudgesEach, JudgesOne, IsKept}
+use Rattle.desk.specs.Verdicts.{AreJudged, IsJudgedRightly, JudgesEach, JudgesOne, JudgesAs, IsKept}
 use Rattle.desk.specs.WaitingStamps.{waiting_view, pending_in, with_waiting}
 use Rattle.desk.specs.declared.batch.Asked.{Asked}
 use Rattle.desk.specs.declared.refusal.StampRefusal.{StampRefusal}
@@ -211,6 +212,8 @@ fits_begin (Some account) a o is made counting grow = (
 judging_fits : (a : Question) (r : StampRefusal) → IsOfJudging r → IsSomebodys a.account r
     → IsFit (Begin a.account a.reading a.octets) (refused r) × ((refused r).signing ≡ Ok [])
     × ((n : ℕ) → faults_after (refused r) n ≡ faults_after (record (refused r) { adding = Fine; sealing = Fine }) n)
+judging_fits a (refusal.Fails rule) of somebody =
+    (fits_begin a.account a (all_fine (Ok [])) refl refl (λ none. refl) (tt, tt), refl, λ n. refl)
 judging_fits a (refusal.Looking f) of somebody =
     (fits_begin a.account a (refused (refusal.Looking f)) refl refl (λ none. refl) (tt, tt), refl, λ n. refl)
 judging_fits a (refusal.Counting f) of somebody = (
@@ -231,86 +234,57 @@ judging_fits a refusal.OutOfReplyMemory of somebody =
 judging_fits a (refusal.Sealing f) of somebody =
     absurd (elim of [ inl x ↦ x | inr x ↦ elim x [ inl e ↦ cc | inr e ↦ cc ] ])
 
--- a rule fails
-pub same_rule : (one other : Rule) → Fails one ≡ Fails other → Some one ≡ Some other
-same_rule one other e = cc
-
-pub judged_failing : {B : Type 0} (g : Ghosts B) (s : Setting) (a : Question) (ws : List Waiting) (rule : Rule)
-    (old new : B) → OnlyLooks g old new → g.fault_count new ≡ g.fault_count old
-    → (g.honest new → (b : History) → Stands g b old → IsSound (with_waiting ws b)
-    → Finds s.file a.account a.reading a.octets (all_fine (Ok [])) (with_waiting ws b) (Fails rule))
-    → ((other : Rule) → IsFirstFailing (HoldsUnasked s.file a.account a.octets) other → Fails rule ≡ Fails other)
-    → JudgesOne g s a ws (Settled (ByRule rule) (all_fine (Ok []))) old new
-judged_failing g s a ws rule old new looks counted finds unasked = record {
-  rightly = record {
-    fits = fits_begin a.account a (all_fine (Ok [])) refl refl (λ none. refl) (tt, tt);
-    unsigned = refl;
-    text = tt;
-    unasked = λ other first. same_rule rule other (unasked other first);
-  };
-  looks = looks;
-  counted = counted;
-  judged = finds;
-}
-
-pub failing_alike : (one other : Rule) → Fails one ≡ Fails other
-    → Settled (ByRule one) (all_fine (Ok [])) ≡ Settled (ByRule other) (all_fine (Ok []))
-failing_alike one other e = cc
-
--- a call had no answer, and no rule of 1 to 9 fails
-pub judged_unanswered : {B : Type 0} (g : Ghosts B) (s : Setting) (a : Question) (ws : List Waiting) (r : StampRefusal)
+-- nothing is reserved for it
+pub judged_err : {B : Type 0} (g : Ghosts B) (s : Setting) (a : Question) (ws : List Waiting) (r : StampRefusal)
     (old new : B) → IsOfJudging r → IsSomebodys a.account r → OnlyLooks g old new
     → g.fault_count new ≡ faults_after (refused r) (g.fault_count old)
     → (g.honest new → (b : History) → Stands g b old → IsSound (with_waiting ws b)
-    → IsUnreserved s a (refused r) (with_waiting ws b) (cause_with r))
-    → ((rule : Rule) → IsFirstFailing (HoldsUnasked s.file a.account a.octets) rule → ⊥)
-    → JudgesOne g s a ws (Settled (ByCause (cause_with r)) (refused r)) old new
-judged_unanswered g s a ws r old new of somebody looks counted judged unasked =
+    → IsSettled s a (why_of r) (refused r) (with_waiting ws b))
+    → ((rule : Rule) → IsFirstFailing (HoldsUnasked s.file a.account a.octets) rule
+    → (r ≡ refusal.Fails rule) × (new ≡ old)) → JudgesAs g s a ws (Err r) old new
+judged_err g s a ws r old new of somebody looks counted judged unasked =
     let fine = judging_fits a r of somebody in
     record {
-      rightly = record {
-        fits = fine.0;
-        unsigned = fine.1;
-        text = tt;
-        unasked = λ rule first. absurd (unasked rule first);
+      judges = record {
+        rightly = record {
+          fits = fine.0;
+          unsigned = fine.1;
+          text = tt;
+          unasked = λ rule first. ap (λ x. Some (rule_by (why_of x))) (unasked rule first).0;
+        };
+        looks = looks;
+        counted = counted ∙ fine.2 (g.fault_count old);
+        judged = judged;
       };
-      looks = looks;
-      counted = counted ∙ fine.2 (g.fault_count old);
-      judged = judged;
+      counted = counted;
+      refusals = of;
+      unasked = λ rule first. (ap Err (unasked rule first).0, (unasked rule first).1);
     }
 
--- what is found is one thing
-pub not_unanswered : (cause : Cause) (rule : Rule) → Unanswered cause ≡ Fails rule → ⊥
-not_unanswered cause rule e = cc
-
-pub not_allowed : (plan : StampPlan) (rule : Rule) → Allowed plan ≡ Fails rule → ⊥
-not_allowed plan rule e = cc
-
-pub unanswered : (s : Setting) (a : Question) (b : History) (r : StampRefusal)
-    → Finds s.file a.account a.reading a.octets (refused r) b (Unanswered (cause_with r))
-    → IsUnreserved s a (refused r) b (cause_with r)
-unanswered s a b r h = record { found = Unanswered (cause_with r); finds = h; why = refl }
+-- by what is found
+pub found_settled : (s : Setting) (a : Question) (o : Outcome) (b : History) (why : Refusal)
+    → Finds s.file a.account a.reading a.octets o b (finding_by why) → IsSettled s a why o b
+found_settled s a o b (ByRule rule) h = h
+found_settled s a o b (ByCause cause) h = record { found = Unanswered cause; finds = h; why = refl }
 
 -- texts aren't written
-unwritten_why : (b : History) (last : ℕ) (r : StampRefusal) → IsUnwritten last r → last ≡ greatest_serial b
-    → (no_number (refused r) b ≡ Some (cause_with r)) × ((refused r).looking ≡ Fine) × ((refused r).counting ≡ Fine)
-unwritten_why b last r (inl h) is =
-    subst (λ x. (no_number (refused x) b ≡ Some (cause_with x)) × ((refused x).looking ≡ Fine)
-    × ((refused x).counting ≡ Fine)) (sym h.0)
-    (exhausted_number (refused refusal.Exhausted) b (subst (λ n. greatest_number ≤ n) is h.1), refl, refl)
-unwritten_why b last r (inr h) is =
-    subst (λ x. (no_number (refused x) b ≡ Some (cause_with x)) × ((refused x).looking ≡ Fine)
-    × ((refused x).counting ≡ Fine)) (sym h.0)
-    (left_number (refused refusal.OutOfMemory) b (subst (λ n. n < greatest_number) is h.1), refl, refl)
-
-pub unwritten : (s : Setting) (a : Question) (b : History) (plan : StampPlan) (last : ℕ) (r : StampRefusal)
+unwritten_settled : (s : Setting) (a : Question) (b : History) (plan : StampPlan) (last : ℕ) (r : StampRefusal)
     → IsUnwritten last r → Finds s.file a.account a.reading a.octets (all_fine (Ok [])) b (Allowed plan)
-    → last ≡ greatest_serial b → IsUnreserved s a (refused r) b (cause_with r)
-unwritten s a b plan last r h found is =
-    let why = unwritten_why b last r h is in
-    record { found = Allowed plan; finds = (found.0, why.1, why.2); why = why.0 }
+    → last ≡ greatest_serial b → IsSettled s a (why_of r) (refused r) b
+unwritten_settled s a b plan last r (inl h) found is =
+    subst (λ x. IsSettled s a (why_of x) (refused x) b) (sym h.0) (record {
+      found = Allowed plan;
+      finds = found;
+      why = exhausted_number (refused refusal.Exhausted) b (subst (λ n. greatest_number ≤ n) is h.1);
+    })
+unwritten_settled s a b plan last r (inr h) found is =
+    subst (λ x. IsSettled s a (why_of x) (refused x) b) (sym h.0) (record {
+      found = Allowed plan;
+      finds = (found.0, refl, refl);
+      why = left_number (refused refusal.OutOfMemory) b (subst (λ n. n < greatest_number) is h.1);
+    })
 
-pub unwritten_of : (account : Option AccountValue) (last : ℕ) (r : StampRefusal) → IsUnwritten last r
+unwritten_of : (account : Option AccountValue) (last : ℕ) (r : StampRefusal) → IsUnwritten last r
     → IsOfJudging r × IsSomebodys account r × ((n : ℕ) → faults_after (refused r) n ≡ n)
 unwritten_of account last r (inl h) =
     subst (λ x. IsOfJudging x × IsSomebodys account x × ((n : ℕ) → faults_after (refused x) n ≡ n)) (sym h.0)
@@ -320,75 +294,69 @@ unwritten_of account last r (inr h) =
     (inr (inr refl), tt, λ n. refl)
 
 -- no rule fails
-pub waits_as : (s : Setting) (plan : StampPlan) (octets : List ℕ) (last : ℕ) (w : Waiting) (one other : List ℕ)
-    → one ≡ other → WaitsFor s one plan octets last w → WaitsFor s other plan octets last w
-waits_as s plan octets last w one other same h = subst (λ name. WaitsFor s name plan octets last w) same h
-
-pub judged_waiting : {B : Type 0} (g : Ghosts B) (s : Setting) (a : Question) (ws : List Waiting) (plan : StampPlan)
-    (last : ℕ) (w : Waiting) (old new : B) → WaitsFor s (name_of a.account) plan a.octets last w → OnlyLooks g old new
-    → g.fault_count new ≡ g.fault_count old
+pub judged_planned : {B : Type 0} (g : Ghosts B) (s : Setting) (a : Question) (ws : List Waiting) (plan : StampPlan)
+    (last : ℕ) (judged : Result Waiting StampRefusal) (old new : B)
+    → IfOk judged (WaitsFor s (name_of a.account) plan a.octets last) → IfErr judged (IsUnwritten last)
+    → OnlyLooks g old new → g.fault_count new ≡ g.fault_count old
     → (g.honest new → (b : History) → Stands g b old → IsSound (with_waiting ws b)
     → Finds s.file a.account a.reading a.octets (all_fine (Ok [])) (with_waiting ws b) (Allowed plan))
     → (g.honest new → (b : History) → Stands g b old → IsSound (with_waiting ws b)
     → last ≡ greatest_serial (with_waiting ws b))
     → ((rule : Rule) → IsFirstFailing (HoldsUnasked s.file a.account a.octets) rule → ⊥)
-    → JudgesOne g s a ws (Waits w) old new
-judged_waiting g s a ws plan last w old new h looks counted finds is_last unasked = record {
-  rightly = record {
-    fits = fits_begin a.account a (all_fine (Ok [])) refl refl (λ none. refl) (tt, tt);
-    unsigned = refl;
-    text = h.text;
-    unasked = λ rule first. absurd (unasked rule first);
+    → JudgesAs g s a ws judged old new
+judged_planned g s a ws plan last (Ok w) old new h unwritten looks counted finds is_last unasked = record {
+  judges = record {
+    rightly = record {
+      fits = fits_begin a.account a (all_fine (Ok [])) refl refl (λ none. refl) (tt, tt);
+      unsigned = refl;
+      text = h.text;
+      unasked = λ rule first. absurd (unasked rule first);
+    };
+    looks = looks;
+    counted = counted;
+    judged = λ honest b stands sound.
+        let is = is_last honest b stands sound in record {
+          plan = plan;
+          found = finds honest b stands sound;
+          left = subst (λ n. n < greatest_number) is h.left;
+          reserves = subst (λ n. waiting_view w ≡ reservation_of s (name_of a.account) plan a.octets (n + 1)) is
+              h.reserves;
+          pending = h.pending;
+        };
   };
-  looks = looks;
   counted = counted;
-  judged = λ honest b stands sound.
-      let is = is_last honest b stands sound in record {
-        plan = plan;
-        found = finds honest b stands sound;
-        left = subst (λ n. n < greatest_number) is h.left;
-        reserves = subst (λ n. waiting_view w ≡ reservation_of s (name_of a.account) plan a.octets (n + 1)) is
-            h.reserves;
-        pending = h.pending;
-      };
+  refusals = tt;
+  unasked = λ rule first. absurd (unasked rule first);
 }
+judged_planned g s a ws plan last (Err r) old new h unwritten looks counted finds is_last unasked =
+    let of = unwritten_of a.account last r unwritten in
+    judged_err g s a ws r old new of.0 of.1 looks (counted ∙ sym (of.2 (g.fault_count old)))
+    (λ honest b stands sound. unwritten_settled s a (with_waiting ws b) plan last r unwritten
+    (finds honest b stands sound) (is_last honest b stands sound)) (λ rule first. absurd (unasked rule first))
 
--- none fails, but the commit of its reservation was refused
-refused_why : (reserving : Call) → (reserving ≡ Fine → ⊥) → (full : Bool)
-    → (cause : Cause) × (first_cause ((cond full (Some OfStore) None) ∷ None ∷ cause_of reserving ∷ []) ≡ Some cause)
-refused_why Fine h full = absurd (h refl)
-refused_why OutOfMemory h true = (OfStore, refl)
-refused_why OutOfMemory h false = (OfMemory, refl)
-refused_why Failed h true = (OfStore, refl)
-refused_why Failed h false = (OfStore, refl)
-
-pub judged_refused : {B : Type 0} (g : Ghosts B) (s : Setting) (a : Question) (plan : StampPlan) (last : ℕ)
-    (reserving : Call) (old new : B) → (reserving ≡ Fine → ⊥) → OnlyLooks g old new
-    → g.fault_count new ≡ g.fault_count old
-    → (g.honest new → (b : History) → Stands g b old → IsSound b
-    → Finds s.file a.account a.reading a.octets (all_fine (Ok [])) b (Allowed plan))
-    → (g.honest new → (b : History) → Stands g b old → IsSound b → last ≡ greatest_serial b)
-    → ((rule : Rule) → IsFirstFailing (HoldsUnasked s.file a.account a.octets) rule → ⊥)
-    → (cause : Cause)
-    × JudgesOne g s a [] (Settled (ByCause cause) (record (all_fine (Ok [])) { adding = reserving })) old new
-judged_refused g s a plan last reserving old new refusal looks counted finds is_last unasked =
+-- one waits, and the commit of its reservation was refused
+pub judged_refused : {B : Type 0} (g : Ghosts B) (s : Setting) (a : Question) (w : Waiting) (reserving : Call)
+    (cause : Cause) (old new : B) → first_cause (cause_of reserving ∷ []) ≡ Some cause
+    → JudgesOne g s a [] (Waits w) old new
+    → JudgesOne g s a [] (Settled (ByCause cause) (record (all_fine (Ok [])) { adding = reserving })) old new
+judged_refused g s a w reserving cause old new why h =
     let o = record (all_fine (Ok [])) { adding = reserving } in
-    let why = refused_why reserving refusal (nat_le greatest_number last) in (
-      why.0,
-      record {
-        rightly = record {
-          fits = fits_begin a.account a o refl refl (λ none. refl) (tt, tt);
-          unsigned = refl;
-          text = tt;
-          unasked = λ rule first. absurd (unasked rule first);
-        };
-        looks = looks;
-        counted = counted;
-        judged = λ honest b stands sound. record {
-          found = Allowed plan;
-          finds = finds honest b stands sound;
-          why = ap (λ n. first_cause ((cond (nat_le greatest_number n) (Some OfStore) None) ∷ None
-              ∷ cause_of reserving ∷ [])) (sym (is_last honest b stands sound)) ∙ why.1;
-        };
-      },
-    )
+    record {
+      rightly = record {
+        fits = fits_begin a.account a o refl refl (λ none. refl) (tt, tt);
+        unsigned = refl;
+        text = tt;
+        unasked = λ rule first. absurd (let waits : None ≡ Some rule = h.rightly.unasked rule first in cc);
+      };
+      looks = h.looks;
+      counted = h.counted;
+      judged = λ honest b stands sound.
+          let awaits = h.judged honest b stands sound in
+          record { found = Allowed awaits.plan; finds = awaits.found; why = left_number o b awaits.left ∙ why };
+    }
+
+pub refused_why : (reserving : Call) → (reserving ≡ Fine → ⊥)
+    → (cause : Cause) × (first_cause (cause_of reserving ∷ []) ≡ Some cause)
+refused_why Fine h = absurd (h refl)
+refused_why OutOfMemory h = (OfMemory, refl)
+refused_why Failed h = (OfStore, refl)

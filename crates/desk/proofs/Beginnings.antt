@@ -1,39 +1,44 @@
 -- A stamp up to its reservation: what decides it, and the step that a beginning is.
 use Rattle.std.proofs.Common.{◌≡◌, ◌⊎◌, ℕ, ◌≤◌, nat_le, cond, Bool, true, false, List, [], ◌++◌, ◌∷◌, Option, Some}
 use Rattle.std.proofs.Common.{ℤ, None, Result, Ok, Err, refl, sym, ap, ◌∙◌, subst, inl, inr, arith}
+use Rattle.std.specs.Prelude.{IfErr}
 use Rattle.std.proofs.lemmas.Bool.Decides.{nat_tests}
 use Rattle.policy.specs.Record.{AccountValue}
+use Rattle.tsp.specs.Rules.{IsFirstFailing}
 use Rattle.tsp.specs.declared.rule.Rule.{Rule}
 use Rattle.cms.specs.declared.signer.SignerFault.{SignerFault}
+use Rattle.book.specs.Entries.{Appends}
 use Rattle.book.specs.Fault.{IsOfStorage}
 use Rattle.book.specs.declared.standing.Standing.{Ghosts}
 use Rattle.book.specs.History.{Entry, Reserved, History, ReservationValue, greatest_serial}
 use Rattle.book.specs.Sound.{greatest_number}
 use Rattle.book.specs.declared.fault.StoreFault.{StoreFault}
-use Rattle.desk.specs.Answers.{begun_as, told}
+use Rattle.desk.specs.Answers.{ended_as}
 use Rattle.desk.specs.Batches.{Question}
-use Rattle.desk.specs.Beginnings.{Refusal, ByRule, ByCause, refused_for, unanswered_by, IsSettled, IsAwaited}
-use Rattle.desk.specs.Beginnings.{IsOfJudging, IsReserved, Settles, Reserves, Begins}
+use Rattle.desk.specs.Beginnings.{unanswered_by, IsSettled, IsAwaited, IsOfBeginning, IsReserved, Settles, Reserves}
+use Rattle.desk.specs.Beginnings.{Begins}
 use Rattle.desk.specs.CallContract.{SignerStep, no_signer, IsBlamedFor, IsBlamed, IsExcused, IsSpentIn, IsOpened}
 use Rattle.desk.specs.CallContract.{StepsBy, StepsWhere, IsDoubted, in_doubt}
-use Rattle.desk.specs.Calls.{store_cause, cause_with, refused, outcome_of, IsOfLooks}
+use Rattle.desk.specs.Calls.{call_of, store_cause, why_of, refused, outcome_of, IsOfLooks}
 use Rattle.desk.specs.Command.{Setting, PendingValue, Command, Begin, Begun, Rejected, Refused}
-use Rattle.desk.specs.Effects.{Effect, Purpose, only, fault_of, no_number, begin_effect, begin_found}
-use Rattle.desk.specs.Effects.{purpose_effect, purpose_found, stamping_of, name_of, in_seal}
-use Rattle.desk.specs.Findings.{Finding, Fails, Unanswered, Allowed, Finds}
+use Rattle.desk.specs.Effects.{Effect, Purpose, refused_for, for_parts, only, fault_of, no_number, begin_effect}
+use Rattle.desk.specs.Effects.{begin_found}
+use Rattle.desk.specs.Effects.{purpose_effect, purpose_found, stamping_of, name_of}
+use Rattle.desk.specs.Findings.{Finding, HoldsUnasked, Fails, Unanswered, Allowed, Finds}
 use Rattle.desk.specs.Fit.{IsFit}
 use Rattle.desk.specs.MachineStep.{HasEffect, IsMet}
-use Rattle.desk.specs.Outcome.{Call, Fine, OutOfMemory, Failed, Outcome, Cause, OfStore, first_cause}
+use Rattle.desk.specs.Outcome.{Call, Fine, OutOfMemory, Failed, Outcome, Cause, OfMemory, OfStore, first_cause}
+use Rattle.desk.specs.Outcome.{Refusal, ByRule, ByCause}
 use Rattle.desk.specs.Outcome.{all_fine, faults_after}
 use Rattle.desk.specs.Texts.{pending_of}
-use Rattle.desk.specs.Verdicts.{Settled, Waits, JudgesOne}
+use Rattle.desk.specs.Verdicts.{Settled, Waits, JudgesOne, JudgesAs}
 use Rattle.desk.specs.WaitingStamps.{waiting_view, pending_in}
 use Rattle.desk.specs.declared.refusal.StampRefusal.{StampRefusal}
 use Rattle.desk.specs.declared.refusal.StampRefusal.TheVariants as refusal
-use Rattle.desk.specs.declared.reply.Begun.{Begun as Told}
-use Rattle.desk.specs.declared.reply.Begun.TheVariants as begun
+use Rattle.desk.specs.Wholes.{answer_by}
+use Rattle.desk.specs.declared.fault.Fault.TheVariants as fault
 use Rattle.desk.specs.declared.waiting_stamp.Waiting.{Waiting}
-use Rattle.desk.proofs.BatchJudgement.{waiting_fits, left_number}
+use Rattle.desk.proofs.BatchJudgement.{waiting_fits, left_number, judged_refused}
 use Rattle.desk.proofs.Committed.{counted_as}
 use Rattle.desk.proofs.Fits.{none_failed, is_refused}
 use Rattle.desk.proofs.Judgement.{same_cause}
@@ -116,43 +121,31 @@ decided g t s c u a P why o old new begins counts moves h blamed = record {
 }
 
 -- a refusal names the store where it failed, or where no number is left
-look_blamed : {B : Type 0} (g : Ghosts B) (c : Command) (f : StoreFault) (old new : B) → IsOfStorage f
-    → IsBlamedFor g c (refused (refusal.Looking f)) old new (fault_of (store_cause f))
-look_blamed g c f old new (inl is) =
-    subst (λ x. IsBlamedFor g c (refused (refusal.Looking x)) old new (fault_of (store_cause x))) (sym is)
-    (none_failed _ tt tt tt tt tt tt tt tt)
-look_blamed g c f old new (inr is) =
-    subst (λ x. IsBlamedFor g c (refused (refusal.Looking x)) old new (fault_of (store_cause x))) (sym is)
-    (inl (inr (inl refl)))
+call_blamed : {B : Type 0} (g : Ghosts B) (c : Command) (o : Call → Outcome) (f : StoreFault) (old new : B)
+    → IsOfStorage f → IsBlamedFor g c (o OutOfMemory) old new fault.Memory
+    → IsBlamedFor g c (o Failed) old new fault.Store → IsBlamedFor g c (o (call_of f)) old new (fault_of (store_cause f))
+call_blamed g c o f old new (inl is) memory failed =
+    subst (λ x. IsBlamedFor g c (o (call_of x)) old new (fault_of (store_cause x))) (sym is) memory
+call_blamed g c o f old new (inr is) memory failed =
+    subst (λ x. IsBlamedFor g c (o (call_of x)) old new (fault_of (store_cause x))) (sym is) failed
 
-count_blamed : {B : Type 0} (g : Ghosts B) (c : Command) (f : StoreFault) (old new : B) → IsOfStorage f
-    → IsBlamedFor g c (refused (refusal.Counting f)) old new (fault_of (store_cause f))
-count_blamed g c f old new (inl is) =
-    subst (λ x. IsBlamedFor g c (refused (refusal.Counting x)) old new (fault_of (store_cause x))) (sym is)
-    (none_failed _ tt tt tt tt tt tt tt tt)
-count_blamed g c f old new (inr is) =
-    subst (λ x. IsBlamedFor g c (refused (refusal.Counting x)) old new (fault_of (store_cause x))) (sym is)
-    (inl (inr (inr (inl refl))))
-
-add_blamed : {B : Type 0} (g : Ghosts B) (c : Command) (f : StoreFault) (old new : B) → IsOfStorage f
-    → IsBlamedFor g c (refused (refusal.Adding f)) old new (fault_of (store_cause f))
-add_blamed g c f old new (inl is) =
-    subst (λ x. IsBlamedFor g c (refused (refusal.Adding x)) old new (fault_of (store_cause x))) (sym is)
-    (none_failed _ tt tt tt tt tt tt tt tt)
-add_blamed g c f old new (inr is) =
-    subst (λ x. IsBlamedFor g c (refused (refusal.Adding x)) old new (fault_of (store_cause x))) (sym is)
-    (inl (inr (inr (inr (inr (inl refl))))))
-
-looks_blamed : {B : Type 0} (g : Ghosts B) (c : Command) (r : StampRefusal) (old new : B) → IsOfLooks r
-    → IsBlamedFor g c (refused r) old new (fault_of (cause_with r))
-looks_blamed g c (refusal.Looking f) old new h = look_blamed g c f old new h
-looks_blamed g c (refusal.Counting f) old new h = count_blamed g c f old new h
-looks_blamed g c refusal.Exhausted old new h = absurd h
-looks_blamed g c refusal.OutOfMemory old new h = absurd h
-looks_blamed g c (refusal.Adding f) old new h = absurd h
-looks_blamed g c (refusal.Signing f) old new h = absurd h
-looks_blamed g c refusal.OutOfReplyMemory old new h = absurd h
-looks_blamed g c (refusal.Sealing f) old new h = absurd h
+looks_blamed : {B : Type 0} (g : Ghosts B) (c : Command) (u : Purpose) (r : StampRefusal) (old new : B) → Tells g c u
+    → IsOfLooks r → IsBlamed g c (refused r) old new (refused_for u (why_of r))
+looks_blamed g c u (refusal.Fails rule) old new tells h = tells.fails rule (all_fine (Ok [])) old new
+looks_blamed g c u (refusal.Looking f) old new tells h =
+    tells.blames (store_cause f) (refused (refusal.Looking f)) old new
+    (call_blamed g c (λ call. record (all_fine (Ok [])) { looking = call }) f old new h
+    (none_failed _ tt tt tt tt tt tt tt tt) (inl (inr (inl refl))))
+looks_blamed g c u (refusal.Counting f) old new tells h =
+    tells.blames (store_cause f) (refused (refusal.Counting f)) old new
+    (call_blamed g c (λ call. record (all_fine (Ok [])) { counting = call }) f old new h
+    (none_failed _ tt tt tt tt tt tt tt tt) (inl (inr (inr (inl refl)))))
+looks_blamed g c u refusal.Exhausted old new tells h = absurd h
+looks_blamed g c u refusal.OutOfMemory old new tells h = absurd h
+looks_blamed g c u (refusal.Adding f) old new tells h = absurd h
+looks_blamed g c u (refusal.Signing f) old new tells h = absurd h
+looks_blamed g c u refusal.OutOfReplyMemory old new tells h = absurd h
+looks_blamed g c u (refusal.Sealing f) old new tells h = absurd h
 
 exhausted_if : (exhausted : Bool) → first_cause ((cond exhausted (Some OfStore) None) ∷ None ∷ None ∷ []) ≡ Some OfStore
     → exhausted ≡ true
@@ -170,44 +163,29 @@ exhausted_by s a b (Unanswered cause) found e = elim found.1 [ inl looks ↦ cc 
 exhausted_by s a b (Allowed plan) found e =
     is_excused (greatest_serial b) (exhausted_if (nat_le greatest_number (greatest_serial b)) e)
 
-abbrev pub IsRefusal : StampRefusal → Type 0
-IsRefusal r = IsOfJudging r ⊎ ((f : StoreFault) × (r ≡ refusal.Adding f) × IsOfStorage f)
-
-pub refusal_blamed : {B : Type 0} (g : Ghosts B) (s : Setting) (c : Command) (a : Question) (r : StampRefusal)
-    (old new : B) → (IsSpentIn g old new → IsExcused g c old new) → IsRefusal r
-    → Settles g s a (ByCause (cause_with r)) (refused r) old new
-    → IsBlamedFor g c (refused r) old new (fault_of (cause_with r))
-refusal_blamed g s c a r old new excused (inl (inl looks)) h = looks_blamed g c r old new looks
-refusal_blamed g s c a r old new excused (inl (inr (inl is))) h =
-    subst (λ x. IsBlamedFor g c (refused x) old new (fault_of (cause_with x))) (sym is)
-    (let spent = subst (λ x. Settles g s a (ByCause (cause_with x)) (refused x) old new) is h in
-    inr (excused (λ honest b stands.
-    let why = spent.settled honest b stands in exhausted_by s a b why.found why.finds why.why)))
-refusal_blamed g s c a r old new excused (inl (inr (inr is))) h =
-    subst (λ x. IsBlamedFor g c (refused x) old new (fault_of (cause_with x))) (sym is)
-    (none_failed _ tt tt tt tt tt tt tt tt)
-refusal_blamed g s c a r old new excused (inr adding) h =
-    subst (λ x. IsBlamedFor g c (refused x) old new (fault_of (cause_with x))) (sym adding.1)
-    (add_blamed g c adding.0 old new adding.2)
+pub refusal_blamed : {B : Type 0} (g : Ghosts B) (s : Setting) (c : Command) (u : Purpose) (a : Question)
+    (r : StampRefusal) (old new : B) → Tells g c u → (IsSpentIn g old new → IsExcused g c old new) → IsOfBeginning r
+    → Settles g s a (why_of r) (refused r) old new → IsBlamed g c (refused r) old new (refused_for u (why_of r))
+refusal_blamed g s c u a r old new tells excused (inl (inl looks)) h = looks_blamed g c u r old new tells looks
+refusal_blamed g s c u a r old new tells excused (inl (inr (inl is))) h =
+    subst (λ x. IsBlamed g c (refused x) old new (refused_for u (why_of x))) (sym is)
+    (let spent = subst (λ x. Settles g s a (why_of x) (refused x) old new) is h in
+    tells.blames OfStore (all_fine (Ok [])) old new (inr (excused (λ honest b stands.
+    let why = spent.settled honest b stands in exhausted_by s a b why.found why.finds why.why))))
+refusal_blamed g s c u a r old new tells excused (inl (inr (inr is))) h =
+    subst (λ x. IsBlamed g c (refused x) old new (refused_for u (why_of x))) (sym is)
+    (tells.blames OfMemory (refused refusal.OutOfMemory) old new (none_failed _ tt tt tt tt tt tt tt tt))
+refusal_blamed g s c u a r old new tells excused (inr adding) h =
+    subst (λ x. IsBlamed g c (refused x) old new (refused_for u (why_of x))) (sym adding.1)
+    (tells.blames (store_cause adding.0) (refused (refusal.Adding adding.0)) old new
+    (call_blamed g c (λ call. record (all_fine (Ok [])) { adding = call }) adding.0 old new adding.2
+    (none_failed _ tt tt tt tt tt tt tt tt) (inl (inr (inr (inr (inr (inl refl))))))))
 
 -- the calls that a beginning makes
 pub begin_calls : (account : Option AccountValue) (reading : ℤ) (octets : List ℕ)
     → IsFit (Begin account reading octets) (all_fine (Ok []))
 begin_calls None reading octets = (refl, (tt, tt))
 begin_calls (Some a) reading octets = (refl, (tt, tt))
-
-adding_fits : (account : Option AccountValue) (reading : ℤ) (octets : List ℕ) (f : StoreFault)
-    → IsFit (Begin account reading octets) (refused (refusal.Adding f))
-adding_fits None reading octets f = (refl, (tt, tt))
-adding_fits (Some a) reading octets f = (refl, (tt, tt))
-
--- a beginning by itself
-abbrev pub for_parts : Purpose
-for_parts = record {
-  keeping = in_seal;
-  rejects = λ rule. Rejected rule;
-  refuses = λ cause. Refused (fault_of cause);
-}
 
 abbrev pub begun_by : ReservationValue → PendingValue → Effect
 begun_by r p = record { adds = Reserved r ∷ []; asks = None; says = Begun p }
@@ -251,14 +229,11 @@ begins_alone g s a = record {
 }
 
 -- a beginning is a step
-pub begins_steps : {B : Type 0} (g : Ghosts B) (s : Setting) (a : Question) (result : Result Told StampRefusal)
-    (old new : B) → Begins g s a result old new
-    → StepsBy g no_signer s (Begin a.account a.reading a.octets) (outcome_of result) old new (told begun_as result)
-begins_steps g s a (Ok (begun.Rejected rejection)) old new h =
-    let c = Begin a.account a.reading a.octets in
-    decided g no_signer s c for_parts a (IsMet c) (ByRule rejection.rule) (all_fine (Ok [])) old new
-    (begins_alone g s a) tt (λ answer. refl) h tt
-begins_steps g s a (Ok (begun.Pending p)) old new h = record {
+pub begins_steps : {B : Type 0} (g : Ghosts B) (s : Setting) (a : Question)
+    (result : Result PendingValue StampRefusal) (old new : B) → Begins g s a result old new
+    → StepsBy g no_signer s (Begin a.account a.reading a.octets) (outcome_of result) old new
+    (answer_by for_parts (ended_as (λ p. Begun p) result))
+begins_steps g s a (Ok p) old new h = record {
   fits = begin_calls a.account a.reading a.octets;
   counted = h.counted;
   signer = tt;
@@ -277,11 +252,12 @@ begins_steps g s a (Ok (begun.Pending p)) old new h = record {
 }
 begins_steps g s a (Err r) old new h =
     let c = Begin a.account a.reading a.octets in
-    decided g no_signer s c for_parts a (IsMet c) (ByCause (cause_with r)) (refused r) old new (begins_alone g s a) tt
-    (λ answer. refl) h.1 (refusal_blamed g s c a r old new (λ e. e) h.0 h.1)
+    let begins = begins_alone g s a in
+    decided g no_signer s c for_parts a (IsMet c) (why_of r) (refused r) old new begins tt (λ answer. refl) h.1
+    (refusal_blamed g s c for_parts a r old new begins.tells (λ e. e) h.0 h.1)
 
 -- what is judged by itself settles a stamp, or waits for its reservation
-pub settles : {B : Type 0} (g : Ghosts B) (s : Setting) (a : Question) (why : Refusal) (o : Outcome) (old new : B)
+settles : {B : Type 0} (g : Ghosts B) (s : Setting) (a : Question) (why : Refusal) (o : Outcome) (old new : B)
     → JudgesOne g s a [] (Settled why o) old new → g.fault_count new ≡ faults_after o (g.fault_count old)
     → Settles g s a why o old new
 settles g s a why o old new h counted = record {
@@ -293,8 +269,9 @@ settles g s a why o old new h counted = record {
 }
 
 -- its reservation is committed
-pub reserves : {B : Type 0} (g : Ghosts B) (s : Setting) (a : Question) (w : Waiting) (p : PendingValue)
-    (old mid new : B) → JudgesOne g s a [] (Waits w) old mid → IsReserved g s w (Ok p) mid new → Reserves g s a p old new
+reserves : {B : Type 0} (g : Ghosts B) (s : Setting) (a : Question) (w : Waiting) (p : PendingValue)
+    (old mid new : B) → JudgesOne g s a [] (Waits w) old mid → IsReserved g s (Ok w) (Ok p) mid new
+    → Reserves g s a p old new
 reserves g s a w p old mid new h is = record {
   counted = is.1.faults ∙ h.counted;
   opened = λ honest. (is.1.opened honest).1;
@@ -308,59 +285,59 @@ reserves g s a w p old mid new h is = record {
 }
 
 -- and where that is refused, it is settled
-pub reserves_none : {B : Type 0} (g : Ghosts B) (s : Setting) (a : Question) (w : Waiting) (f : StoreFault)
-    (old mid new : B) → JudgesOne g s a [] (Waits w) old mid → IsReserved g s w (Err (refusal.Adding f)) mid new
+reserves_none : {B : Type 0} (g : Ghosts B) (s : Setting) (a : Question) (w : Waiting) (f : StoreFault)
+    (old mid new : B) → JudgesOne g s a [] (Waits w) old mid → IsOfStorage f
+    → Appends {A = Unit {0}} g (Reserved (waiting_view w) ∷ []) mid new (Err f)
     → Settles g s a (ByCause (store_cause f)) (refused (refusal.Adding f)) old new
-reserves_none g s a w f old mid new h is = record {
-  fits = adding_fits a.account a.reading a.octets f;
-  counted = is.1.faults ∙ (counted_as f is.0 (g.fault_count mid) ∙ ap (λ n. faults_after (refused (refusal.Adding f)) n)
-      h.counted);
-  settled = λ honest b stands.
-      let awaits = h.judged (is.1.honest honest) b stands stands.sound in record {
-        found = Allowed awaits.plan;
-        finds = awaits.found;
-        why = left_number (refused (refusal.Adding f)) b awaits.left
-            ∙ ap (λ x. first_cause (x ∷ [])) (same_cause f is.0);
-      };
-  stands = λ honest b stands. is.1.err b (h.looks.stands b stands);
-  left = λ honest b stands left r.
-      let awaits = h.judged (is.1.honest honest) b stands stands.sound in
-      elim (is.1.crash honest left r) [
-        | inl before ↦ inl (h.looks.leaves (is.1.honest honest) left before)
-        | inr adds ↦ inr (record {
-          fault = f;
-          storage = is.0;
-          met = refl;
-          reservation = waiting_view w;
-          pending = pending_in s w;
-          awaits = awaits;
-          holds = adds b (h.looks.stands b stands) (waiting_fits s a b w awaits, tt);
-        })
-      ];
-}
+reserves_none g s a w f old mid new h storage is =
+    let judged = judged_refused g s a w (call_of f) (store_cause f) old mid
+    (ap (λ x. first_cause (x ∷ [])) (same_cause f storage)) h in
+    record {
+      fits = judged.rightly.fits;
+      counted = is.faults ∙ (counted_as f storage (g.fault_count mid)
+          ∙ ap (λ n. faults_after (refused (refusal.Adding f)) n) h.counted);
+      settled = λ honest b stands. judged.judged (is.honest honest) b stands stands.sound;
+      stands = λ honest b stands. is.err b (h.looks.stands b stands);
+      left = λ honest b stands left r.
+          let awaits = h.judged (is.honest honest) b stands stands.sound in
+          elim (is.crash honest left r) [
+            | inl before ↦ inl (h.looks.leaves (is.honest honest) left before)
+            | inr adds ↦ inr (record {
+              fault = f;
+              storage = storage;
+              met = refl;
+              reservation = waiting_view w;
+              pending = pending_in s w;
+              awaits = awaits;
+              holds = adds b (h.looks.stands b stands) (waiting_fits s a b w awaits, tt);
+            })
+          ];
+    }
 
--- the same of what was answered, whatever it is
-pub reserves_or_none : {B : Type 0} (g : Ghosts B) (s : Setting) (a : Question) (w : Waiting) (r : StampRefusal)
-    (old mid new : B) → JudgesOne g s a [] (Waits w) old mid → IsReserved g s w (Err r) mid new
-    → Begins g s a (Err r) old new
-reserves_or_none g s a w (refusal.Adding f) old mid new h is =
-    (inr (f, refl, is.0), reserves_none g s a w f old mid new h is)
-reserves_or_none g s a w (refusal.Looking f) old mid new h is = absurd is
-reserves_or_none g s a w (refusal.Counting f) old mid new h is = absurd is
-reserves_or_none g s a w refusal.Exhausted old mid new h is = absurd is
-reserves_or_none g s a w refusal.OutOfMemory old mid new h is = absurd is
-reserves_or_none g s a w (refusal.Signing f) old mid new h is = absurd is
-reserves_or_none g s a w refusal.OutOfReplyMemory old mid new h is = absurd is
-reserves_or_none g s a w (refusal.Sealing f) old mid new h is = absurd is
+-- what is judged, and reserved where it waits, is a beginning
+pub begins : {B : Type 0} (g : Ghosts B) (s : Setting) (a : Question) (judged : Result Waiting StampRefusal)
+    (result : Result PendingValue StampRefusal) (old mid new : B) → JudgesAs g s a [] judged old mid
+    → IsReserved g s judged result mid new → Begins g s a result old new
+begins g s a (Ok w) (Ok p) old mid new h is = reserves g s a w p old mid new h.judges is
+begins g s a (Ok w) (Err r) old mid new h is =
+    subst (λ x. Begins g s a (Err x) old new) (sym is.1)
+    (inr (is.0, refl, is.2), reserves_none g s a w is.0 old mid new h.judges is.2 is.3)
+begins g s a (Err r) result old mid new h is =
+    subst (λ x. Begins g s a x old new) (sym is.0)
+    (subst (λ v. Begins g s a (Err r) old v) (sym is.1)
+    (inl h.refusals, settles g s a (why_of r) (refused r) old mid h.judges h.counted))
 
--- what is judged is one thing
-pub settled_by : (one other : Rule)
-    → Settled (ByRule one) (all_fine (Ok [])) ≡ Settled (ByRule other) (all_fine (Ok [])) → one ≡ other
-settled_by one other e = cc
+pub begins_refused : {B : Type 0} (g : Ghosts B) (s : Setting) (a : Question)
+    (result : Result PendingValue StampRefusal) (old new : B) → Begins g s a result old new → IfErr result IsOfBeginning
+begins_refused g s a (Ok p) old new h = tt
+begins_refused g s a (Err r) old new h = h.0
 
-pub not_by_rule : (cause : Cause) (o : Outcome) (rule : Rule)
-    → Settled (ByCause cause) o ≡ Settled (ByRule rule) (all_fine (Ok [])) → ⊥
-not_by_rule cause o rule e = cc
-
-pub unsettled : (w : Waiting) (rule : Rule) → Waits w ≡ Settled (ByRule rule) (all_fine (Ok [])) → ⊥
-unsettled w rule e = cc
+-- one that fails one of the rules 1 to 9 is refused by it, and nothing is done
+pub begins_unasked : {B : Type 0} (g : Ghosts B) (s : Setting) (a : Question) (ws : List Waiting)
+    (judged : Result Waiting StampRefusal) (result : Result PendingValue StampRefusal) (old mid new : B)
+    → JudgesAs g s a ws judged old mid → IsReserved g s judged result mid new → (rule : Rule)
+    → IsFirstFailing (HoldsUnasked s.file a.account a.octets) rule
+    → (result ≡ Err (refusal.Fails rule)) × (new ≡ old)
+begins_unasked g s a ws judged result old mid new h is rule first =
+    let unasked = h.unasked rule first in
+    let begun = subst (λ r. IsReserved g s r result mid new) unasked.0 is in (begun.0, begun.1 ∙ unasked.1)

@@ -102,7 +102,7 @@ void_one p (Ok signature) begun sealing o is h =
     let none : no_seal o ≡ Some why.0 = ap (λ x. first_cause (cause_of o.wrapping ∷ cause_of x ∷ [])) is ∙ why.1 in
     let end = ap (token_or (token_with p signature)) none in (
       ap (λ e. added in_seal p.serial e ++ begun) end,
-      ap (λ e. answer_by for_reply.refuses (ended in_seal p.serial e)) end,
+      ap (λ e. answer_by for_reply (ended in_seal p.serial e)) end,
     )
 
 pub void_seals : (sealing : Call) → (sealing ≡ Fine → ⊥) → (zs : List Completion) → seals_of sealing zs ≡ []

@@ -15,14 +15,14 @@ use Rattle.book.specs.declared.fault.StoreFault.{StoreFault}
 use Rattle.book.specs.declared.fault.StoreFault.TheVariants as store
 use Rattle.desk.specs.Fit.{IsFit}
 use Rattle.desk.specs.Outcome.{Fine, OutOfMemory, Failed, Outcome, Cause, OfMemory, OfStore, OfSigner}
-use Rattle.desk.specs.Outcome.{faults_after, first_cause, all_fine}
+use Rattle.desk.specs.Outcome.{Refusal, ByCause, faults_after, first_cause, all_fine}
 use Rattle.desk.specs.Command.{Setting, PendingValue, Finish, Answer, Refused}
 use Rattle.desk.specs.Texts.{token_with}
-use Rattle.desk.specs.Effects.{Keeping, in_seal, fault_of, unless, no_seal, finish_effect}
+use Rattle.desk.specs.Effects.{Keeping, in_seal, for_parts, refused_for, fault_by, unless, no_seal, finish_effect}
 use Rattle.desk.specs.MachineStep.{IsWaiting}
 use Rattle.desk.specs.Answers.{reply_as}
 use Rattle.desk.specs.CallContract.{StepsBy, IsBlamed, MayBeLeft, no_signer, committed, in_doubt}
-use Rattle.desk.specs.Calls.{refused, cause_with, store_cause, signer_cause}
+use Rattle.desk.specs.Calls.{refused, why_of, store_cause, signer_cause}
 use Rattle.desk.specs.Wholes.{joined, token_or, ending, added, ended, answer_by, MayStay, WasMet, Ends, IsOfFinish}
 use Rattle.desk.specs.declared.reply.Reply.{Reply}
 use Rattle.desk.specs.declared.refusal.StampRefusal.{StampRefusal}
@@ -30,7 +30,7 @@ use Rattle.desk.specs.declared.refusal.StampRefusal.TheVariants as refusal
 use Rattle.desk.proofs.Committed.{counted_as}
 use Rattle.desk.proofs.Fits.{is_refused}
 use Rattle.desk.proofs.Judgement.{same_cause}
-use Rattle.desk.proofs.Beginnings.{Tells, for_parts}
+use Rattle.desk.proofs.Beginnings.{Tells}
 use Rattle.desk.proofs.Stamps.{tells_opened, tells_blamed, met_all}
 
 -- what waits may be sealed
@@ -43,7 +43,7 @@ unsigned_met signer.Failed = refl
 unsigned_met signer.Memory = (tt, tt)
 
 pub unsigned : {B : Type 0} (g : Ghosts B) (k : Keeping) (p : PendingValue) (f : SignerFault) (v : B)
-    → Ends g k p (Err f) (all_fine (Ok [])) v v (Err (signer_cause f))
+    → Ends g k p (Err f) (all_fine (Ok [])) v v (Err (ByCause (signer_cause f)))
 unsigned g k p f v = record {
   says = refl;
   grows = tt;
@@ -96,7 +96,7 @@ unstored_met signature store.Backwards storage = absurd (is_refused store.Backwa
 unstored_as : {B : Type 0} (g : Ghosts B) (k : Keeping) (p : PendingValue) (signature : List ℕ) (old new : B)
     (f : StoreFault) → IsOfStorage f
     → Appends {A = Unit {0}} g (k.adds p.serial (token_with p signature) ∷ []) old new (Err f)
-    → Ends g k p (Ok signature) (refused (refusal.Sealing f)) old new (Err (store_cause f))
+    → Ends g k p (Ok signature) (refused (refusal.Sealing f)) old new (Err (ByCause (store_cause f)))
 unstored_as g k p signature old new f storage a =
     let o = refused (refusal.Sealing f) in
     let end : ending p (Ok signature) o ≡ Err (store_cause f) =
@@ -120,7 +120,7 @@ unstored_as g k p signature old new f storage a =
 pub unstored : {B : Type 0} (g : Ghosts B) (k : Keeping) (p : PendingValue) (signature : List ℕ) (serial : ℕ)
     (token : List ℕ) (old new : B) (f : StoreFault) → serial ≡ p.serial → token ≡ token_with p signature
     → IsOfStorage f → Appends {A = Unit {0}} g (k.adds serial token ∷ []) old new (Err f)
-    → Ends g k p (Ok signature) (refused (refusal.Sealing f)) old new (Err (store_cause f))
+    → Ends g k p (Ok signature) (refused (refusal.Sealing f)) old new (Err (ByCause (store_cause f)))
 unstored g k p signature serial token old new f number is storage a =
     unstored_as g k p signature old new f storage
     (subst (λ x. Appends {A = Unit {0}} g (k.adds p.serial x ∷ []) old new (Err f)) is
@@ -143,7 +143,7 @@ finish_is : (p : PendingValue) (signature : List ℕ) (why : Option Cause)
     → ((unless why (finish_effect p signature)).adds ≡ added in_seal p.serial (token_or (token_with p signature) why))
     × (((unless why (finish_effect p signature)).asks ≡ None)
     × ((unless why (finish_effect p signature)).says
-    ≡ answer_by for_parts.refuses (ended in_seal p.serial (token_or (token_with p signature) why))))
+    ≡ answer_by for_parts (ended in_seal p.serial (token_or (token_with p signature) why))))
 finish_is p signature None = (refl, (refl, refl))
 finish_is p signature (Some cause) = (refl, (refl, refl))
 
@@ -172,31 +172,32 @@ finish_met signature o (Err OfStore) met = met
 finish_met signature o (Err OfSigner) met = cc
 
 finish_fits : (p : PendingValue) (signature : List ℕ) (r : StampRefusal) → IsOfFinish r
-    → IsFit (Finish p signature) (refused r)
+    → IsFit (Finish p signature) (refused r) × (refused_for for_parts (why_of r) ≡ Refused (fault_by (why_of r)))
+finish_fits p signature (refusal.Fails rule) h = absurd h
 finish_fits p signature (refusal.Looking f) h = absurd h
 finish_fits p signature (refusal.Counting f) h = absurd h
 finish_fits p signature refusal.Exhausted h = absurd h
 finish_fits p signature refusal.OutOfMemory h = absurd h
 finish_fits p signature (refusal.Adding f) h = absurd h
 finish_fits p signature (refusal.Signing f) h = absurd h
-finish_fits p signature refusal.OutOfReplyMemory h = (refl, (tt, tt))
-finish_fits p signature (refusal.Sealing f) h = (refl, (tt, tt))
+finish_fits p signature refusal.OutOfReplyMemory h = ((refl, (tt, tt)), refl)
+finish_fits p signature (refusal.Sealing f) h = ((refl, (tt, tt)), refl)
 
 finishes_as : {B : Type 0} (g : Ghosts B) (s : Setting) (p : PendingValue) (signature : List ℕ) (o : Outcome)
-    (old new : B) (answer : Result Answer Cause) → IsFit (Finish p signature) o
+    (old new : B) (answer : Result Answer Refusal) → IsFit (Finish p signature) o
     → Ends g in_seal p (Ok signature) o old new answer
-    → StepsBy g no_signer s (Finish p signature) o old new (answer_by for_parts.refuses answer)
+    → StepsBy g no_signer s (Finish p signature) o old new (answer_by for_parts answer)
 finishes_as g s p signature o old new answer fit ends =
     let c = Finish p signature in
     let end = ending p (Ok signature) o in
     let tells = tells_finish g p signature in
     let is = finish_is p signature (no_seal o) in
-    subst (λ a. StepsBy g no_signer s c o old new (answer_by for_parts.refuses a)) (sym ends.says)
+    subst (λ a. StepsBy g no_signer s c o old new (answer_by for_parts a)) (sym ends.says)
     (record {
       fits = fit;
       counted = ends.counted ∙ sym (ap (λ w. faults_after w (g.fault_count old)) fit.0);
       signer = tt;
-      blames = subst (λ w. IsBlamed g c w old new (answer_by for_parts.refuses (ended in_seal p.serial end)))
+      blames = subst (λ w. IsBlamed g c w old new (answer_by for_parts (ended in_seal p.serial end)))
           (sym fit.0) (tells_blamed g c for_parts tells p.serial (joined (all_fine (Ok [])) (Ok []) o) old new end
           (met_all g c (Ok []) o old new end ends.grows (finish_met signature o end ends.met)));
       opened = λ honest. tells_opened g c for_parts tells p.serial new end (ends.opened honest);
@@ -219,7 +220,9 @@ finishes g s p signature old new r ends =
     finishes_as g s p signature (all_fine (Ok [])) old new (Ok (reply_as r)) (refl, (tt, tt)) ends
 
 pub finish_refused : {B : Type 0} (g : Ghosts B) (s : Setting) (p : PendingValue) (signature : List ℕ) (old new : B)
-    (r : StampRefusal) → IsOfFinish r → Ends g in_seal p (Ok signature) (refused r) old new (Err (cause_with r))
-    → StepsBy g no_signer s (Finish p signature) (refused r) old new (Refused (fault_of (cause_with r)))
+    (r : StampRefusal) → IsOfFinish r → Ends g in_seal p (Ok signature) (refused r) old new (Err (why_of r))
+    → StepsBy g no_signer s (Finish p signature) (refused r) old new (Refused (fault_by (why_of r)))
 finish_refused g s p signature old new r of ends =
-    finishes_as g s p signature (refused r) old new (Err (cause_with r)) (finish_fits p signature r of) ends
+    let fits = finish_fits p signature r of in
+    subst (StepsBy g no_signer s (Finish p signature) (refused r) old new) fits.1
+    (finishes_as g s p signature (refused r) old new (Err (why_of r)) fits.0 ends)

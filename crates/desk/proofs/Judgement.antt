@@ -26,9 +26,8 @@ use Rattle.book.specs.declared.fault.StoreFault.{StoreFault}
 use Rattle.book.specs.declared.fault.StoreFault.TheVariants as store
 use Rattle.desk.specs.Calls.{call_of, store_cause, count_for}
 use Rattle.desk.specs.Facts.{calibration_of, now_in, gen_time_of, gen_time_in, count_in, clock_of, facts_of}
-use Rattle.desk.specs.Findings.{HoldsUnasked, HoldsAt, IsAnsweredFor, Fails}
+use Rattle.desk.specs.Findings.{HoldsUnasked, HoldsAt, IsAnsweredFor}
 use Rattle.desk.specs.Outcome.{cause_of, counted, all_fine}
-use Rattle.desk.proofs.Headline.{one_first}
 
 -- the count after a refusal is the outcome's
 pub same_count : (f : StoreFault) (n : ℕ) → count_after f n ≡ counted (call_of f) n
@@ -152,12 +151,6 @@ answered_for file account r facts Certificate first = tt
 answered_for file account r facts Clock first = refl
 answered_for file account r facts Quota first = (refl, refl)
 answered_for file account r facts System first = absurd (first.fails tt)
-
--- there is one finding of the rules 1 to 9
-pub one_unasked : (file : PolicyValue) (account : Option AccountValue) (octets : List ℕ) (one other : Rule)
-    → IsFirstFailing (HoldsUnasked file account octets) one → IsFirstFailing (HoldsUnasked file account octets) other
-    → Fails one ≡ Fails other
-one_unasked file account octets one other f g = ap Fails (one_first (HoldsUnasked file account octets) one other f g)
 
 -- one look-up after the other
 pub looks_then : {B : Type 0} (g : Ghosts B) (old mid new : B) → OnlyLooks g old mid → OnlyLooks g mid new

@@ -1,27 +1,22 @@
 -- A deposit of new octets is a stamp, whose token is kept with it.
-use Rattle.std.proofs.Common.{◌≡◌, ℕ, ◌≤◌, nat_le, ℤ, Bool, true, List, [], length, Option, Some, None, Ok, refl, sym}
+use Rattle.std.proofs.Common.{◌≡◌, ℕ, ◌≤◌, nat_le, ℤ, Bool, true, List, length, Option, Some, None, refl, sym}
 use Rattle.std.proofs.Common.{◌∙◌, ap, subst, arith}
 use Rattle.std.proofs.lemmas.Bool.Decides.{nat_tests}
 use Rattle.book.specs.declared.standing.Standing.{Ghosts}
+use Rattle.std.specs.Prelude.{IfSome}
 use Rattle.sha2.specs.Sha256.{sha256}
 use Rattle.policy.specs.Record.{AccountValue, PolicyValue}
 use Rattle.tsp.specs.Request.{RequestValue, Spells, sha256_request}
-use Rattle.tsp.specs.Rules.{IsFirstFailing}
-use Rattle.tsp.specs.declared.rule.Rule.{Rule}
-use Rattle.book.specs.History.{History, deposit_under, greatest_serial}
-use Rattle.book.specs.Sound.{IsSound}
-use Rattle.book.specs.Stands.{Stands, OnlyLooks}
-use Rattle.desk.specs.Beginnings.{WaitsFor}
-use Rattle.desk.specs.Outcome.{Fine, Outcome, all_fine, cause_of}
-use Rattle.desk.specs.Findings.{StampPlan, HoldsUnasked, Finding, Allowed, Finds}
-use Rattle.desk.specs.Verdicts.{Waits, JudgesOne}
-use Rattle.desk.specs.declared.waiting_stamp.Waiting.{Waiting}
-use Rattle.desk.specs.Command.{Setting, Deposit}
+use Rattle.book.specs.History.{History, deposit_under}
+use Rattle.desk.specs.Outcome.{Fine, Outcome, Refusal, ByRule, ByCause, cause_of}
+use Rattle.desk.specs.Findings.{Finding, Finds}
+use Rattle.desk.specs.Command.{Setting, Deposit, Refused}
 use Rattle.desk.specs.Texts.{gives_certificate, request_for, octets_for}
-use Rattle.desk.specs.Effects.{for_deposit, deposit_found, name_of}
+use Rattle.desk.specs.Effects.{for_deposit, deposit_found, refused_for, fault_by}
 use Rattle.desk.specs.MachineStep.{HasEffect, KeepsWithinSize, KeepsOnceSearched, KeepsByReference}
-use Rattle.desk.specs.NewDeposit.{octets_of, question_of, IsUnused}
-use Rattle.desk.proofs.BatchJudgement.{judged_waiting}
+use Rattle.desk.specs.NewDeposit.{octets_of, question_of, IsUnused, FailsLate}
+use Rattle.desk.specs.Fault.{IsOfDeposit}
+use Rattle.desk.proofs.Late.{by_cause}
 use Rattle.desk.proofs.Stamps.{IsStamp}
 use Rattle.desk.proofs.Views.{fits_seal}
 
@@ -32,21 +27,23 @@ pub request_is : (file : PolicyValue) (a : AccountValue) (bytes digest : List �
 request_is file a bytes digest certificate r made hashed gives =
     made ∙ (ap (λ d. sha256_request d certificate) hashed ∙ ap (sha256_request (sha256 bytes)) gives)
 
--- what was judged of it
-pub made_judged : {B : Type 0} (g : Ghosts B) (s : Setting) (account : Option AccountValue) (reading : ℤ)
-    (r : RequestValue) (plan : StampPlan) (last : ℕ) (w : Waiting) (name octets : List ℕ) (old mid : B)
-    → plan.request ≡ r → name ≡ name_of account → octets ≡ octets_of plan.request → WaitsFor s name plan octets last w
-    → OnlyLooks g old mid → g.fault_count mid ≡ g.fault_count old
-    → (g.honest mid → (b : History) → Stands g b old → IsSound b
-    → Finds s.file account reading (octets_of r) (all_fine (Ok [])) b (Allowed plan))
-    → (g.honest mid → (b : History) → Stands g b old → IsSound b → last ≡ greatest_serial b)
-    → ((rule : Rule) → IsFirstFailing (HoldsUnasked s.file account (octets_of r)) rule → ⊥)
-    → JudgesOne g s (question_of account reading r) [] (Waits w) old mid
-made_judged g s account reading r plan last w name octets old mid same named made waits looks counted finds is_last
-    unasked =
-    judged_waiting g s (question_of account reading r) [] plan last w old mid
-    (subst (λ xs. WaitsFor s (name_of account) plan xs last w) (made ∙ ap octets_of same)
-    (subst (λ x. WaitsFor s x plan octets last w) named waits)) looks counted finds is_last unasked
+-- its octets, where they were written
+pub lent_octets : {X : Type 0} (view : X → List ℕ) (query : Option X) (octets : List ℕ) (r : RequestValue)
+    → IfSome query (λ q. view q ≡ octets) → Spells octets r → length octets ≤ 65536
+    → IfSome query (λ q. Spells (view q) r) × IfSome query (λ q. length (view q) ≤ 65536)
+lent_octets view None octets r is spelled short = (tt, tt)
+lent_octets view (Some q) octets r is spelled short =
+    (subst (λ xs. Spells xs r) (sym is) spelled, subst (λ xs. length xs ≤ 65536) (sym is) short)
+
+-- a refusal of a deposit's stamp
+pub late_refusal : (why : Refusal) → FailsLate why → IsOfDeposit (fault_by why)
+late_refusal (ByRule rule) late = late
+late_refusal (ByCause cause) late = by_cause cause
+
+pub refused_deposit : (owner reference bytes : List ℕ) (why : Refusal)
+    → Refused (fault_by why) ≡ refused_for (for_deposit owner reference bytes) why
+refused_deposit owner reference bytes (ByRule rule) = refl
+refused_deposit owner reference bytes (ByCause cause) = refl
 
 -- a plan is found as for a stamp
 under_octets : (s : Setting) (a : AccountValue) (reading : ℤ) (reference bytes : List ℕ) (o : Outcome) (b : History)

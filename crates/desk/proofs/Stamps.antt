@@ -10,23 +10,25 @@ use Rattle.book.specs.History.{Entry, Reserved, History, ReservationValue, great
 use Rattle.book.specs.Sound.{Along, Fits}
 use Rattle.book.specs.Stands.{Stands}
 use Rattle.desk.specs.Batches.{Question, stamp_for}
-use Rattle.desk.specs.Beginnings.{Refusal, ByRule, ByCause, refused_for, IsSettled, IsAwaited, Settles, Reserves}
-use Rattle.desk.specs.Beginnings.{Begins}
-use Rattle.desk.specs.Calls.{cause_with, refused}
+use Rattle.desk.specs.Answers.{ended_as}
+use Rattle.desk.specs.Beginnings.{IsSettled, IsAwaited, Reserves, Begins}
+use Rattle.desk.specs.Calls.{why_of, refused}
+use Rattle.desk.specs.Kept.{kept_as}
 use Rattle.desk.specs.Outcome.{Call, Fine, OutOfMemory, Failed, Outcome, Cause, OfMemory, OfStore, OfSigner, counted}
-use Rattle.desk.specs.Outcome.{all_fine}
+use Rattle.desk.specs.Outcome.{Refusal, ByRule, ByCause, all_fine}
 use Rattle.desk.specs.Findings.{StampPlan, Finding, Fails, Allowed, Finds}
 use Rattle.desk.specs.Command.{Setting, PendingValue, Command, Begin, Answer}
 use Rattle.desk.specs.Texts.{pending_of, token_with}
-use Rattle.desk.specs.Effects.{Purpose, only, fault_of, no_seal, next_reservation, sealed_or_void, signed_or_void}
-use Rattle.desk.specs.Effects.{stamping_of, purpose_effect, purpose_found, for_reply, name_of}
+use Rattle.desk.specs.Effects.{Purpose, refused_for, only, fault_of, no_seal, next_reservation, sealed_or_void}
+use Rattle.desk.specs.Effects.{signed_or_void, stamping_of, purpose_effect, purpose_found, for_reply, name_of}
 use Rattle.desk.specs.MachineStep.{HasEffect, IsMet}
 use Rattle.desk.specs.Fit.{IsFit, IsUncounted}
 use Rattle.desk.specs.CallContract.{StepsWhere, IsBlamed, IsBlamedFor, IsExcused, IsSpentIn, IsOpened, MayBeLeft}
 use Rattle.desk.specs.CallContract.{with_signer, in_doubt}
 use Rattle.desk.specs.Wholes.{joined, token_or, ending, added, ended, answer_by, ended_by, stamped, MayStay, WasMet}
-use Rattle.desk.specs.Wholes.{Completes}
+use Rattle.desk.specs.Wholes.{Completes, CompletesBegun}
 use Rattle.desk.specs.declared.refusal.StampRefusal.{StampRefusal}
+use Rattle.desk.specs.declared.unsigned_token.Written.{Written}
 use Rattle.desk.proofs.BatchJudgement.{left_number}
 use Rattle.desk.proofs.Beginnings.{Tells, BeginsWith, unanswered_found, decided, refusal_blamed, begin_calls}
 use Rattle.desk.proofs.Fits.{none_failed}
@@ -118,13 +120,13 @@ met_blamed g c signing o old new OfSigner grows met = met
 
 pub tells_opened : {B : Type 0} (g : Ghosts B) (c : Command) (u : Purpose) → Tells g c u → (n : ℕ) (new : B)
     (end : Result (List ℕ) Cause) → OnOk end (g.is_open new)
-    → IsOpened g c (answer_by u.refuses (ended u.keeping n end)) new
+    → IsOpened g c (answer_by u (ended u.keeping n end)) new
 tells_opened g c u tells n new (Ok token) open_yet = tells.opens n token new open_yet
 tells_opened g c u tells n new (Err cause) none = tells.refuses cause new
 
 pub tells_blamed : {B : Type 0} (g : Ghosts B) (c : Command) (u : Purpose) → Tells g c u → (n : ℕ) (o : Outcome)
     (old new : B) (end : Result (List ℕ) Cause) → IfErr end (λ cause. IsBlamedFor g c o old new (fault_of cause))
-    → IsBlamed g c o old new (answer_by u.refuses (ended u.keeping n end))
+    → IsBlamed g c o old new (answer_by u (ended u.keeping n end))
 tells_blamed g c u tells n o old new (Ok token) blamed = tells.grants n token o old new
 tells_blamed g c u tells n o old new (Err cause) blamed = tells.blames cause o old new blamed
 
@@ -136,20 +138,6 @@ met_all g c signing o old new (Err cause) grows met = met_blamed g c signing o o
 
 module _ {B X : Type 0} (g : Ghosts B) (signs : X → List ℕ → Result (List ℕ) SignerFault → X → Type 0) (count : X → ℕ)
     (s : Setting) (c : Command) (u : Purpose) (a : Question) (P : History → Type 0) (is : IsStamp g s c u a P) where
-  pub is_rejected : (x : X) (rule : Rule) (old new : B) → Settles g s a (ByRule rule) (all_fine (Ok [])) old new
-      → StepsWhere g (with_signer signs count x x) s c P (all_fine (Ok [])) old new (u.rejects rule)
-  is_rejected x rule old new h =
-      decided g (with_signer signs count x x) s c u a P (ByRule rule) (all_fine (Ok [])) old new
-      (stamps_begin g s c u a P is) refl (λ answer. refl) h (is.tells.fails rule (all_fine (Ok [])) old new)
-
-  pub is_refused : (x : X) (r : StampRefusal) (old new : B) → Begins g s a (Err r) old new
-      → StepsWhere g (with_signer signs count x x) s c P (refused r) old new (u.refuses (cause_with r))
-  is_refused x r old new h =
-      decided g (with_signer signs count x x) s c u a P (ByCause (cause_with r)) (refused r) old new
-      (stamps_begin g s c u a P is) refl (λ answer. refl) h.1
-      (is.tells.blames (cause_with r) (refused r) old new
-      (refusal_blamed g s c a r old new (is.excused old new) h.0 h.1))
-
   -- what a stop leaves after its end
   left_ended : (p : PendingValue) (r : ReservationValue) (signing : Result (List ℕ) SignerFault) (finished : Outcome)
       (b : History) (old mid : B) (left : g.Left)
@@ -175,16 +163,16 @@ module _ {B X : Type 0} (g : Ghosts B) (signs : X → List ℕ → Result (List 
       }))
 
   -- a stamp that was reserved: the signer is asked, and the token is kept where it answers
-  pub is_completed : (x y : X) (p : PendingValue) (signing : Result (List ℕ) SignerFault) (finished : Outcome)
-      (old mid new : B) (answer : Result Answer Cause) → Reserves g s a p old mid → (g.honest new → g.honest mid)
+  is_completed : (x y : X) (p : PendingValue) (signing : Result (List ℕ) SignerFault) (finished : Outcome)
+      (old mid new : B) (answer : Result Answer Refusal) → Reserves g s a p old mid → (g.honest new → g.honest mid)
       → Completes g (with_signer signs count x y) u.keeping p signing finished mid new answer
       → StepsWhere g (with_signer signs count x y) s c P (joined (all_fine (Ok [])) signing finished) old new
-      (answer_by u.refuses answer)
+      (answer_by u answer)
   is_completed x y p signing finished old mid new answer begun honest done =
       let o = all_fine (Ok []) in
       let end = ending p signing finished in
       subst (λ told. StepsWhere g (with_signer signs count x y) s c P (joined o signing finished) old new
-      (answer_by u.refuses told)) (sym done.ends.says)
+      (answer_by u told)) (sym done.ends.says)
       (record {
         fits = is.calls o finished signing (begin_calls a.account a.reading a.octets) done.ends.grows;
         counted = done.ends.counted ∙ ap (λ n. counted finished.sealing (counted finished.wrapping n)) begun.counted;
@@ -215,6 +203,26 @@ module _ {B X : Type 0} (g : Ghosts B) (signs : X → List ℕ → Result (List 
                   (λ still. h.stands.settled (honest kept) (begun.opened (honest kept)) left still) (ends.left left q);
             };
       })
+
+  -- it is completed where it was begun
+  pub is_whole : (x y : X) (begun : Result PendingValue StampRefusal) (result : Result Written StampRefusal)
+      (old mid new : B) → Begins g s a begun old mid → (g.honest new → g.honest mid)
+      → CompletesBegun g (with_signer signs count x y) u.keeping begun mid new result
+      → (o : Outcome) × StepsWhere g (with_signer signs count x y) s c P o old new
+      (answer_by u (ended_as (kept_as u.keeping) result))
+  is_whole x y (Ok p) result old mid new begun honest done = (
+    joined (all_fine (Ok [])) done.0 done.1,
+    is_completed x y p done.0 done.1 old mid new (ended_as (kept_as u.keeping) result) begun honest done.2,
+  )
+  is_whole x y (Err r) result old mid new begun honest done =
+      let t = with_signer signs count x y in (
+        refused r,
+        subst (λ told. StepsWhere g t s c P (refused r) old new (answer_by u (ended_as (kept_as u.keeping) told)))
+            (sym done.0)
+            (subst (λ v. StepsWhere g t s c P (refused r) old v (refused_for u (why_of r))) (sym done.1)
+            (decided g t s c u a P (why_of r) (refused r) old mid (stamps_begin g s c u a P is) done.2 done.3 begun.1
+            (refusal_blamed g s c u a r old mid is.tells (is.excused old mid) begun.0 begun.1))),
+      )
 
 -- the calls of the command that is a stamp alone are those of its parts
 pub stamp_calls : (a : Question) (o finished : Outcome) (signing : Result (List ℕ) SignerFault)

@@ -3,9 +3,9 @@ use Rattle.std.specs.Prelude.{ℕ, Result, Ok, Err}
 use Rattle.desk.specs.Command as answer
 use Rattle.desk.specs.Command.{Answer}
 use Rattle.book.specs.declared.fault.StoreFault.{StoreFault}
-use Rattle.desk.specs.Calls.{cause_with, store_cause}
+use Rattle.desk.specs.Calls.{why_of, store_cause}
 use Rattle.desk.specs.Effects.{fault_of}
-use Rattle.desk.specs.Outcome.{Cause}
+use Rattle.desk.specs.Outcome.{Refusal}
 use Rattle.desk.specs.declared.fault.Fault.{Fault}
 use Rattle.desk.specs.declared.refusal.StampRefusal.{StampRefusal}
 use Rattle.desk.specs.declared.reply.Begun.{Begun}
@@ -26,15 +26,10 @@ abbrev pub answered : {A : Type 0} → (A → Answer) → Result A Fault → Ans
 answered as_answer (Ok a) = as_answer a
 answered as_answer (Err fault) = answer.Refused fault
 
--- the same of the parts of a call, whose refusals tell which call was refused
-abbrev pub told : {A : Type 0} → (A → Answer) → Result A StampRefusal → Answer
-told as_answer (Ok a) = as_answer a
-told as_answer (Err refusal) = answer.Refused (fault_of (cause_with refusal))
-
--- the same where the command goes on from it
-abbrev pub ended_as : {A : Type 0} → (A → Answer) → Result A StampRefusal → Result Answer Cause
+-- the same of the parts of a stamp, whose refusals tell why
+abbrev pub ended_as : {A : Type 0} → (A → Answer) → Result A StampRefusal → Result Answer Refusal
 ended_as as_answer (Ok a) = Ok (as_answer a)
-ended_as as_answer (Err refusal) = Err (cause_with refusal)
+ended_as as_answer (Err r) = Err (why_of r)
 
 -- a calibration or a hold is added under its number, or the store refuses it
 abbrev pub entered : Result ℕ StoreFault → Answer

@@ -1,7 +1,5 @@
 -- A stamp up to its reservation, whatever it is made for, by itself or together with others.
 use Rattle.std.specs.Prelude.{◌≡◌, ◌⊎◌, ℕ, ◌+◌, ◌<◌, ◌≤◌, List, [], ◌∷◌, Option, Some, None, Result, Ok, Err}
-use Rattle.tsp.specs.declared.rule.Rule.{Rule}
-use Rattle.tsp.specs.declared.rule.Rule.TheVariants.{System}
 use Rattle.book.specs.Entries.{Appends}
 use Rattle.book.specs.Fault.{IsOfStorage}
 use Rattle.book.specs.History.{Reserved, History, ReservationValue, greatest_serial}
@@ -10,33 +8,17 @@ use Rattle.book.specs.Stands.{Stands}
 use Rattle.book.specs.declared.fault.StoreFault.{StoreFault}
 use Rattle.book.specs.declared.standing.Standing.{Ghosts}
 use Rattle.desk.specs.Batches.{Question}
-use Rattle.desk.specs.Calls.{cause_with, refused, IsOfLooks}
-use Rattle.desk.specs.Command.{Setting, PendingValue, Answer, Begin}
-use Rattle.desk.specs.Effects.{Purpose, name_of, next_reservation, no_number}
+use Rattle.desk.specs.Calls.{why_of, refused, IsOfLooks}
+use Rattle.desk.specs.Command.{Setting, PendingValue, Begin}
+use Rattle.desk.specs.Effects.{name_of, next_reservation, no_number}
 use Rattle.desk.specs.Findings.{StampPlan, Finding, Fails, Unanswered, Allowed, Finds}
 use Rattle.desk.specs.Fit.{IsFit}
-use Rattle.desk.specs.Outcome.{Outcome, Cause, all_fine, faults_after}
+use Rattle.desk.specs.Outcome.{Outcome, Cause, Refusal, ByRule, ByCause, all_fine, faults_after}
 use Rattle.desk.specs.Texts.{reservation_of, pending_of}
 use Rattle.desk.specs.WaitingStamps.{waiting_view, pending_in, HasText}
 use Rattle.desk.specs.declared.refusal.StampRefusal.{StampRefusal}
 use Rattle.desk.specs.declared.refusal.StampRefusal.TheVariants as refusal
-use Rattle.desk.specs.declared.reply.Begun.{Begun}
-use Rattle.desk.specs.declared.reply.Begun.TheVariants as begun
 use Rattle.desk.specs.declared.waiting_stamp.Waiting.{Waiting}
-
--- why nothing is reserved: a rule fails, or a call that is needed had no answer
-pub data Refusal : Type 0 where
-  ByRule : Rule → Refusal
-  ByCause : Cause → Refusal
-
--- by which rule it is rejected
-abbrev pub rule_by : Refusal → Rule
-rule_by (ByRule rule) = rule
-rule_by (ByCause cause) = System
-
-abbrev pub refused_for : Purpose → Refusal → Answer
-refused_for u (ByRule rule) = u.rejects rule
-refused_for u (ByCause cause) = u.refuses cause
 
 -- the call that had no answer, by what was found and why there is no serial number
 abbrev pub unanswered_by : Finding → Option Cause → Option Cause
@@ -78,13 +60,18 @@ IsUnwritten last r =
 abbrev pub IsOfJudging : StampRefusal → Type 0
 IsOfJudging r = IsOfLooks r ⊎ ((r ≡ refusal.Exhausted) ⊎ (r ≡ refusal.OutOfMemory))
 
+-- or the reservation was refused
+abbrev pub IsOfBeginning : StampRefusal → Type 0
+IsOfBeginning r = IsOfJudging r ⊎ ((f : StoreFault) × (r ≡ refusal.Adding f) × IsOfStorage f)
+
 -- what waits is reserved, or the commit is refused
-abbrev pub IsReserved : {B : Type 0} → Ghosts B → Setting → Waiting → Result PendingValue StampRefusal → B → B → Type 0
-IsReserved g s w (Ok p) old new =
+abbrev pub IsReserved : {B : Type 0} → Ghosts B → Setting → Result Waiting StampRefusal
+    → Result PendingValue StampRefusal → B → B → Type 0
+IsReserved g s (Err r) result old new = (result ≡ Err r) × (new ≡ old)
+IsReserved g s (Ok w) (Ok p) old new =
     (p ≡ pending_in s w) × Appends {A = Unit {0}} g (Reserved (waiting_view w) ∷ []) old new (Ok tt)
-IsReserved g s w (Err (refusal.Adding f)) old new =
-    IsOfStorage f × Appends {A = Unit {0}} g (Reserved (waiting_view w) ∷ []) old new (Err f)
-IsReserved g s w (Err _) old new = ⊥
+IsReserved g s (Ok w) (Err r) old new = (f : StoreFault) × (r ≡ refusal.Adding f) × IsOfStorage f
+    × Appends {A = Unit {0}} g (Reserved (waiting_view w) ∷ []) old new (Err f)
 
 -- the commit of its reservation was refused, and is there after all
 pub record IsReservedAfterAll {B : Type 0} (g : Ghosts B) (s : Setting) (a : Question) (o : Outcome) (b : History)
@@ -121,10 +108,6 @@ pub record Reserves {B : Type 0} (g : Ghosts B) (s : Setting) (a : Question) (p 
     pub reserves : g.honest new → (b : History) → Stands g b old → HasReserved g s a p b new
 
 -- a stamp up to its reservation
-abbrev pub Begins : {B : Type 0} → Ghosts B → Setting → Question → Result Begun StampRefusal → B → B → Type 0
-Begins g s a (Ok (begun.Rejected rejection)) old new =
-    Settles g s a (ByRule rejection.rule) (all_fine (Ok [])) old new
-Begins g s a (Ok (begun.Pending p)) old new = Reserves g s a p old new
-Begins g s a (Err r) old new =
-    (IsOfJudging r ⊎ ((f : StoreFault) × (r ≡ refusal.Adding f) × IsOfStorage f))
-    × Settles g s a (ByCause (cause_with r)) (refused r) old new
+abbrev pub Begins : {B : Type 0} → Ghosts B → Setting → Question → Result PendingValue StampRefusal → B → B → Type 0
+Begins g s a (Ok p) old new = Reserves g s a p old new
+Begins g s a (Err r) old new = IsOfBeginning r × Settles g s a (why_of r) (refused r) old new

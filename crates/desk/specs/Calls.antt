@@ -1,11 +1,9 @@
 -- What the program's types stand for, and what the parts of a call answer.
-use Rattle.std.specs.Prelude.{◌≡◌, ℕ, ◌≤◌, min, ℤ, List, [], length, Option, Some, None, option_map, Result, Ok}
-use Rattle.std.specs.Prelude.{Err}
+use Rattle.std.specs.Prelude.{◌≡◌, ℕ, min, ℤ, List, [], Option, Some, None, option_map, Result, Ok, Err}
 use Rattle.gentime.specs.GenTime.{last_moment}
 use Rattle.policy.specs.Record.{AccountValue}
 use Rattle.policy.specs.View.{policy_view}
 use Rattle.policy.specs.declared.policy.Policy.{Policy}
-use Rattle.tsp.specs.Request.{RequestValue, Spells}
 use Rattle.tsp.specs.View.{request_view}
 use Rattle.cms.specs.Identity.{IdentityValue}
 use Rattle.cms.specs.declared.signer.SignerFault.{SignerFault}
@@ -17,10 +15,9 @@ use Rattle.book.specs.declared.fault.StoreFault.TheVariants as store
 use Rattle.book.specs.History.{History, CalibrationValue, greatest_serial, count_of_day}
 use Rattle.desk.specs.Facts.{calibration_of, clock_of}
 use Rattle.desk.specs.Outcome.{Call, Fine, OutOfMemory, Failed, Outcome, Cause, OfMemory, OfStore, OfSigner, all_fine}
+use Rattle.desk.specs.Outcome.{Refusal, ByRule, ByCause}
 use Rattle.desk.specs.Findings.{StampPlan, Finding, Fails, Unanswered, Allowed}
 use Rattle.desk.specs.Command.{InForce, Setting, Answer, Done}
-use Rattle.desk.specs.declared.findings.Judgement.{Judgement}
-use Rattle.desk.specs.declared.findings.Judgement.TheVariants as found
 use Rattle.desk.specs.declared.findings.Planned.{Planned}
 use Rattle.desk.specs.declared.clock_facts.Looked.{Looked}
 use Rattle.desk.specs.declared.settings.Settings.{Settings}
@@ -41,18 +38,20 @@ abbrev pub signer_cause : SignerFault → Cause
 signer_cause signer.Failed = OfSigner
 signer_cause signer.Memory = OfMemory
 
-abbrev pub cause_with : StampRefusal → Cause
-cause_with (refusal.Looking f) = store_cause f
-cause_with (refusal.Counting f) = store_cause f
-cause_with refusal.Exhausted = OfStore
-cause_with refusal.OutOfMemory = OfMemory
-cause_with (refusal.Adding f) = store_cause f
-cause_with (refusal.Signing f) = signer_cause f
-cause_with refusal.OutOfReplyMemory = OfMemory
-cause_with (refusal.Sealing f) = store_cause f
+abbrev pub why_of : StampRefusal → Refusal
+why_of (refusal.Fails rule) = ByRule rule
+why_of (refusal.Looking f) = ByCause (store_cause f)
+why_of (refusal.Counting f) = ByCause (store_cause f)
+why_of refusal.Exhausted = ByCause OfStore
+why_of refusal.OutOfMemory = ByCause OfMemory
+why_of (refusal.Adding f) = ByCause (store_cause f)
+why_of (refusal.Signing f) = ByCause (signer_cause f)
+why_of refusal.OutOfReplyMemory = ByCause OfMemory
+why_of (refusal.Sealing f) = ByCause (store_cause f)
 
 -- all calls answered but the one that was refused
 abbrev pub refused : StampRefusal → Outcome
+refused (refusal.Fails rule) = all_fine (Ok [])
 refused (refusal.Looking f) = record (all_fine (Ok [])) { looking = call_of f }
 refused (refusal.Counting f) = record (all_fine (Ok [])) { counting = call_of f }
 refused refusal.Exhausted = all_fine (Ok [])
@@ -62,22 +61,17 @@ refused (refusal.Signing f) = all_fine (Err f)
 refused refusal.OutOfReplyMemory = record (all_fine (Ok [])) { wrapping = OutOfMemory }
 refused (refusal.Sealing f) = record (all_fine (Ok [])) { sealing = call_of f }
 
--- a look-up was refused
+-- a rule fails, or a look-up was refused
 abbrev pub IsOfLooks : StampRefusal → Type 0
+IsOfLooks (refusal.Fails rule) = Unit {0}
 IsOfLooks (refusal.Looking f) = IsOfStorage f
 IsOfLooks (refusal.Counting f) = IsOfStorage f
 IsOfLooks _ = ⊥
 
 -- the day that was asked for, and refused, is somebody's
 abbrev pub IsSomebodys : Option AccountValue → StampRefusal → Type 0
-IsSomebodys account (refusal.Looking f) = Unit {0}
 IsSomebodys account (refusal.Counting f) = account ≡ None → ⊥
-IsSomebodys account refusal.Exhausted = Unit {0}
-IsSomebodys account refusal.OutOfMemory = Unit {0}
-IsSomebodys account (refusal.Adding f) = Unit {0}
-IsSomebodys account (refusal.Signing f) = Unit {0}
-IsSomebodys account refusal.OutOfReplyMemory = Unit {0}
-IsSomebodys account (refusal.Sealing f) = Unit {0}
+IsSomebodys account _ = Unit {0}
 
 abbrev pub outcome_of : {A : Type 0} → Result A StampRefusal → Outcome
 outcome_of (Ok a) = all_fine (Ok [])
@@ -107,24 +101,13 @@ moment_or_last moment = min moment last_moment
 abbrev pub plan_of : Planned → StampPlan
 plan_of p = record { request = request_view p.request; policy = p.policy.now; gen_time = p.gen_time }
 
-abbrev pub finding_of : Result Judgement StampRefusal → Finding
-finding_of (Ok (found.Fails rule)) = Fails rule
-finding_of (Ok (found.Allows p)) = Allowed (plan_of p)
-finding_of (Err r) = Unanswered (cause_with r)
+abbrev pub finding_by : Refusal → Finding
+finding_by (ByRule rule) = Fails rule
+finding_by (ByCause cause) = Unanswered cause
 
--- the stamp's request is the one that the octets spell
-abbrev pub IsReadFrom : List ℕ → Judgement → Type 0
-IsReadFrom octets (found.Fails rule) = Unit {0}
-IsReadFrom octets (found.Allows p) = Spells octets (request_view p.request) × (length octets ≤ 65536)
-
-abbrev pub HasRequest : RequestValue → Judgement → Type 0
-HasRequest r (found.Fails rule) = Unit {0}
-HasRequest r (found.Allows p) = request_view p.request ≡ r
-
--- the greatest serial number was this one
-abbrev pub HasLast : ℕ → Judgement → Type 0
-HasLast last (found.Fails rule) = Unit {0}
-HasLast last (found.Allows p) = p.last ≡ last
+abbrev pub finding_of : Result Planned StampRefusal → Finding
+finding_of (Ok p) = Allowed (plan_of p)
+finding_of (Err r) = finding_by (why_of r)
 
 -- how many reservations an account has on a day
 abbrev pub count_for : Option AccountValue → ℕ → History → ℕ

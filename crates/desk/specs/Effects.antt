@@ -18,6 +18,7 @@ use Rattle.book.specs.Rows.{DepositRow}
 use Rattle.book.specs.Sound.{greatest_number, is_backwards}
 use Rattle.book.specs.Values.{deposit_of}
 use Rattle.desk.specs.Outcome.{Outcome, Cause, OfMemory, OfStore, OfSigner, cause_of, cause_of_signing, first_cause}
+use Rattle.desk.specs.Outcome.{Refusal, ByRule, ByCause}
 use Rattle.desk.specs.Findings.{StampPlan, Finding, Fails, Unanswered, Allowed}
 use Rattle.desk.specs.Command.{Setting, PendingValue, Answer, Stamped, Rejected, Begun, Kept, Shown, Done, Numbered}
 use Rattle.desk.specs.Command.{Refused}
@@ -40,6 +41,15 @@ abbrev pub fault_of : Cause → Fault
 fault_of OfMemory = fault.Memory
 fault_of OfStore = fault.Store
 fault_of OfSigner = fault.Signer
+
+abbrev pub fault_by : Refusal → Fault
+fault_by (ByRule rule) = fault.Rejected rule
+fault_by (ByCause cause) = fault_of cause
+
+-- the rule by which a stamp is rejected that is refused so
+abbrev pub rule_by : Refusal → Rule
+rule_by (ByRule rule) = rule
+rule_by (ByCause cause) = System
 
 -- the answer, where each call that it needs was answered
 abbrev pub unless : Option Cause → Effect → Effect
@@ -107,9 +117,21 @@ pub record Purpose : Type 0 where
   pub rejects : Rule → Answer
   pub refuses : Cause → Answer
 
+abbrev pub refused_for : Purpose → Refusal → Answer
+refused_for u (ByRule rule) = u.rejects rule
+refused_for u (ByCause cause) = u.refuses cause
+
 -- the reply is the token, the rejection by the first rule that fails, or the rejection by rule 12
 abbrev pub for_reply : Purpose
 for_reply = record { keeping = in_seal; rejects = λ rule. Rejected rule; refuses = λ cause. Rejected System }
+
+-- the same where the signature is made elsewhere
+abbrev pub for_parts : Purpose
+for_parts = record {
+  keeping = in_seal;
+  rejects = λ rule. Rejected rule;
+  refuses = λ cause. Refused (fault_of cause);
+}
 
 abbrev pub for_deposit : List ℕ → List ℕ → List ℕ → Purpose
 for_deposit owner reference bytes = record {

@@ -8,10 +8,7 @@ use Rattle.book.specs.History.{History, deposit_under}
 use Rattle.book.specs.Rows.{DepositRow}
 use Rattle.desk.specs.Batches.{Question}
 use Rattle.desk.specs.Fault.{IsLate}
-use Rattle.desk.specs.declared.findings.Judgement.{Judgement}
-use Rattle.desk.specs.declared.findings.Judgement.TheVariants as found
-use Rattle.desk.specs.declared.reply.Begun.{Begun}
-use Rattle.desk.specs.declared.reply.Begun.TheVariants as begun
+use Rattle.desk.specs.Outcome.{Refusal, ByRule, ByCause}
 use Rattle.desk.specs.declared.new_deposit.Known.{Known}
 use Rattle.desk.specs.declared.new_deposit.Known.TheVariants as known
 
@@ -20,14 +17,10 @@ abbrev pub known_in : List ℕ → Option DepositRow → Known
 known_in bytes None = known.Nothing
 known_in bytes (Some d) = if bytes_eq d.bytes bytes then known.Same d.serial else known.Other
 
--- how a deposit's rules fail
-abbrev pub FailsLate : Judgement → Type 0
-FailsLate (found.Fails rule) = IsLate rule
-FailsLate (found.Allows p) = Unit {0}
-
-abbrev pub IsRejectedLate : Begun → Type 0
-IsRejectedLate (begun.Rejected rejection) = IsLate rejection.rule
-IsRejectedLate (begun.Pending p) = Unit {0}
+-- a rule that fails is one that a deposit may fail
+abbrev pub FailsLate : Refusal → Type 0
+FailsLate (ByRule rule) = IsLate rule
+FailsLate (ByCause cause) = Unit {0}
 
 -- the owner hasn't used the reference
 abbrev pub IsUnused : AccountValue → List ℕ → History → Type 0

@@ -2,6 +2,7 @@
 -- history.
 use Rattle.std.specs.Prelude.{ℕ, List, [], ◌∷◌, Option, Some, None, Result, Ok, Err}
 use Rattle.std.specs.Hash.DefaultHasher.{wrapping_add}
+use Rattle.tsp.specs.declared.rule.Rule.{Rule}
 use Rattle.cms.specs.declared.signer.SignerFault.{SignerFault}
 use Rattle.cms.specs.declared.signer.SignerFault.TheVariants as signer
 
@@ -36,6 +37,11 @@ pub data Cause : Type 0 where
   OfMemory : Cause
   OfStore : Cause
   OfSigner : Cause
+
+-- why nothing comes of a stamp: a rule fails, or a call that is needed had no answer
+pub data Refusal : Type 0 where
+  ByRule : Rule → Refusal
+  ByCause : Cause → Refusal
 
 abbrev pub cause_of : Call → Option Cause
 cause_of Fine = None

@@ -20,9 +20,14 @@ use Rattle.desk.specs.Command.{Setting, Answer, Rejected}
 use Rattle.desk.specs.Batches.{Question, stamp_for, stamps_for, IsCutTogether, faults_along}
 use Rattle.desk.specs.Fit.{IsFit}
 use Rattle.desk.specs.declared.batch.Asked.{Asked}
+use Rattle.desk.specs.declared.findings.Requested.{Requested}
 
 abbrev pub question_view : Asked → Question
 question_view a = record { account = account_asked a.account; reading = a.reading; octets = a.query.now }
+
+-- of a request that was read of these octets
+abbrev pub question_with : Requested → List ℕ → Question
+question_with r octets = record { account = account_asked r.account; reading = r.reading; octets = octets }
 
 abbrev pub questions_view : List Asked → List Question
 questions_view asked = map question_view asked

@@ -1,6 +1,6 @@
 -- How each of the stamps that are answered together is judged, what waits, and what each is told: stepping stones of
 -- the proofs.
-use Rattle.std.specs.Prelude.{◌≡◌, List, [], ◌∷◌, ◌++◌, map, Option, Some, None, Result, Ok, Err}
+use Rattle.std.specs.Prelude.{◌≡◌, List, [], ◌∷◌, ◌++◌, map, Option, Some, None, Result, Ok, Err, IfErr}
 use Rattle.std.specs.List.{AllByRecursion}
 use Rattle.tsp.specs.Rules.{IsFirstFailing}
 use Rattle.tsp.specs.declared.rule.Rule.{Rule}
@@ -9,28 +9,27 @@ use Rattle.book.specs.declared.standing.Standing.{Ghosts}
 use Rattle.book.specs.History.{Reserved, History}
 use Rattle.book.specs.Sound.{IsSound}
 use Rattle.book.specs.Stands.{Stands, OnlyLooks}
-use Rattle.desk.specs.Outcome.{Call, Fine, OutOfMemory, Failed, Outcome, all_fine, faults_after}
+use Rattle.desk.specs.Effects.{rule_by}
+use Rattle.desk.specs.Outcome.{Call, Fine, OutOfMemory, Failed, Outcome, Refusal, all_fine, faults_after}
 use Rattle.desk.specs.Findings.{HoldsUnasked}
-use Rattle.desk.specs.Beginnings.{Refusal, ByRule, ByCause, rule_by, IsSettled, IsAwaited}
-use Rattle.desk.specs.Calls.{cause_with, refused}
+use Rattle.desk.specs.Beginnings.{IsSettled, IsAwaited, IsOfJudging}
+use Rattle.desk.specs.Calls.{why_of, refused, outcome_of}
 use Rattle.desk.specs.Command.{Setting, Answer, Begin, Rejected}
 use Rattle.desk.specs.Batches.{Question, faults_along}
 use Rattle.desk.specs.Fit.{IsFit}
 use Rattle.desk.specs.WaitingStamps.{waiting_view, with_waiting, pending_in, HasText}
 use Rattle.desk.specs.declared.waiting_stamp.Waiting.{Waiting}
 use Rattle.desk.specs.declared.refusal.StampRefusal.{StampRefusal}
-use Rattle.desk.specs.declared.stamp_start.Judged.{Judged}
-use Rattle.desk.specs.declared.stamp_start.Judged.TheVariants as judged
+use Rattle.desk.specs.declared.refusal.StampRefusal.TheVariants as refusal
 
 -- How a stamp is judged: nothing is reserved for it, where this was met; or it waits for its signature.
 pub data Verdict : Type 0 where
   Settled : Refusal → Outcome → Verdict
   Waits : Waiting → Verdict
 
-abbrev pub verdict_of : Result Judged StampRefusal → Verdict
-verdict_of (Ok (judged.Fails rule)) = Settled (ByRule rule) (all_fine (Ok []))
-verdict_of (Ok (judged.Waits w)) = Waits w
-verdict_of (Err r) = Settled (ByCause (cause_with r)) (refused r)
+abbrev pub verdict_of : Result Waiting StampRefusal → Verdict
+verdict_of (Ok w) = Waits w
+verdict_of (Err r) = Settled (why_of r) (refused r)
 
 pub record JudgedStamp : Type 0 where
   pub question : Question
@@ -110,6 +109,15 @@ pub record JudgesOne {B : Type 0} (g : Ghosts B) (s : Setting) (a : Question) (w
   pub counted : g.fault_count new ≡ faults_after (looks_of verdict) (g.fault_count old)
   pub judged : g.honest new → (b : History) → Stands g b old → IsSound (with_waiting ws b)
       → IsJudgedAs s a verdict (with_waiting ws b)
+
+-- the same by what is answered of it
+pub record JudgesAs {B : Type 0} (g : Ghosts B) (s : Setting) (a : Question) (ws : List Waiting)
+    (judged : Result Waiting StampRefusal) (old new : B) : Type 0 where
+  pub judges : JudgesOne g s a ws (verdict_of judged) old new
+  pub counted : g.fault_count new ≡ faults_after (outcome_of judged) (g.fault_count old)
+  pub refusals : IfErr judged IsOfJudging
+  pub unasked : (rule : Rule) → IsFirstFailing (HoldsUnasked s.file a.account a.octets) rule
+      → (judged ≡ Err (refusal.Fails rule)) × (new ≡ old)
 
 -- it is put behind those before it
 abbrev pub IsKept : Verdict → List (Option Rule) → List (Option Rule) → List Waiting → List Waiting → Type 0

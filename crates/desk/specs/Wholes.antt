@@ -7,15 +7,18 @@ use Rattle.cms.specs.declared.signer.SignerFault.TheVariants as signer
 use Rattle.book.specs.History.{Entry, History}
 use Rattle.book.specs.Sound.{Fits}
 use Rattle.book.specs.Stands.{Stands}
-use Rattle.desk.specs.Outcome.{Fine, Failed, Outcome, Cause, OfMemory, OfStore, OfSigner, counted}
+use Rattle.desk.specs.Outcome.{Fine, Failed, Outcome, Cause, OfMemory, OfStore, OfSigner, Refusal, ByCause, counted}
 use Rattle.desk.specs.Fit.{IsUncounted, IsUnfailed}
 use Rattle.desk.specs.Command.{PendingValue, Answer}
 use Rattle.desk.specs.Texts.{token_with}
-use Rattle.desk.specs.Effects.{Effect, Keeping, Purpose, no_seal}
+use Rattle.desk.specs.Effects.{Effect, Keeping, Purpose, refused_for, no_seal}
+use Rattle.desk.specs.Answers.{ended_as}
 use Rattle.desk.specs.CallContract.{SignerStep}
+use Rattle.desk.specs.Kept.{kept_as}
 use Rattle.desk.specs.Calls.{signer_cause}
 use Rattle.desk.specs.declared.refusal.StampRefusal.{StampRefusal}
 use Rattle.desk.specs.declared.refusal.StampRefusal.TheVariants as refusal
+use Rattle.desk.specs.declared.unsigned_token.Written.{Written}
 
 -- what the three parts met
 abbrev pub joined : Outcome → Result (List ℕ) SignerFault → Outcome → Outcome
@@ -39,20 +42,20 @@ abbrev pub added : Keeping → ℕ → Result (List ℕ) Cause → List Entry
 added k serial (Ok token) = k.adds serial token ∷ []
 added k serial (Err cause) = []
 
-abbrev pub ended : Keeping → ℕ → Result (List ℕ) Cause → Result Answer Cause
+abbrev pub ended : Keeping → ℕ → Result (List ℕ) Cause → Result Answer Refusal
 ended k serial (Ok token) = Ok (k.says serial token)
-ended k serial (Err cause) = Err cause
+ended k serial (Err cause) = Err (ByCause cause)
 
-abbrev pub answer_by : (Cause → Answer) → Result Answer Cause → Answer
-answer_by refuses (Ok answer) = answer
-answer_by refuses (Err cause) = refuses cause
+abbrev pub answer_by : Purpose → Result Answer Refusal → Answer
+answer_by u (Ok answer) = answer
+answer_by u (Err why) = refused_for u why
 
 -- what the three parts did
 abbrev pub ended_by : Purpose → PendingValue → List Entry → Result (List ℕ) Cause → Effect
 ended_by u p begun end = record {
   adds = added u.keeping p.serial end ++ begun;
   asks = Some (attribute_text p.identity p.tst);
-  says = answer_by u.refuses (ended u.keeping p.serial end);
+  says = answer_by u (ended u.keeping p.serial end);
 }
 
 abbrev pub stamped : Purpose → PendingValue → Result (List ℕ) SignerFault → List Entry → Outcome → Effect
@@ -81,7 +84,7 @@ WasMet signing o OfSigner = signing ≡ Err signer.Failed
 
 -- A stamp from its signature on: the token is kept, in one commit.
 pub record Ends {B : Type 0} (g : Ghosts B) (k : Keeping) (p : PendingValue) (signing : Result (List ℕ) SignerFault)
-    (o : Outcome) (old new : B) (answer : Result Answer Cause) : Type 0 where
+    (o : Outcome) (old new : B) (answer : Result Answer Refusal) : Type 0 where
   pub says : answer ≡ ended k p.serial (ending p signing o)
   pub grows : IsUncounted o.wrapping
   pub counted : g.fault_count new ≡ counted o.sealing (counted o.wrapping (g.fault_count old))
@@ -92,10 +95,18 @@ pub record Ends {B : Type 0} (g : Ghosts B) (k : Keeping) (p : PendingValue) (si
 
 -- The same from its reservation on: the signer is asked first.
 pub record Completes {B : Type 0} (g : Ghosts B) (t : SignerStep) (k : Keeping) (p : PendingValue)
-    (signing : Result (List ℕ) SignerFault) (o : Outcome) (old new : B) (answer : Result Answer Cause) : Type 0 where
+    (signing : Result (List ℕ) SignerFault) (o : Outcome) (old new : B) (answer : Result Answer Refusal) : Type 0 where
   pub signer : t.counts signing
   pub moves : t.moves (Some (attribute_text p.identity p.tst)) signing
   pub ends : Ends g k p signing o old new answer
+
+-- where it was begun, and else nothing is done
+abbrev pub CompletesBegun : {B : Type 0} → Ghosts B → SignerStep → Keeping → Result PendingValue StampRefusal → B → B
+    → Result Written StampRefusal → Type 0
+CompletesBegun g t k (Ok p) old new result = (signing : Result (List ℕ) SignerFault) × (o : Outcome)
+    × Completes g t k p signing o old new (ended_as (kept_as k) result)
+CompletesBegun g t k (Err r) old new result = (result ≡ Err r) × (new ≡ old) × t.counts (Ok [])
+    × ((answer : Result (List ℕ) SignerFault) → t.moves None answer)
 
 -- the refusals of a finish
 abbrev pub IsOfFinish : StampRefusal → Type 0

@@ -3,11 +3,11 @@ ghost use Rattle.std.specs.Prelude.{◌≡◌, ◌≤◌, ◌<◌, ◌+◌, [], 
 ghost use Rattle.book.specs.Entries.{entries_view};
 ghost use Rattle.book.specs.Fault.{IsOfStorage};
 ghost use Rattle.book.specs.History.{Reserved};
-ghost use Rattle.desk.specs.Beginnings.{Refusal, rule_by};
 ghost use Rattle.desk.specs.Calls.{settings_view};
 ghost use Rattle.desk.specs.Commits.{call_for, IsCommitted};
 ghost use Rattle.desk.specs.Halves.{AreBegun, HasRoom};
-ghost use Rattle.desk.specs.Outcome.{Call, Fine, Outcome};
+ghost use Rattle.desk.specs.Effects.{rule_by as rule_for};
+ghost use Rattle.desk.specs.Outcome.{Call, Fine, Outcome, Refusal};
 ghost use Rattle.desk.specs.Together.{question_view, questions_view};
 ghost use Rattle.desk.specs.Verdicts.{verdict_of, Settled, JudgesEach, JudgesOne};
 ghost use Rattle.desk.specs.Verdicts.{IsKept};
@@ -16,11 +16,10 @@ ghost use Rattle.desk.specs.WaitingStamps.{waiting_view};
 use crate::batch::Asked;
 use crate::commit::commit;
 use crate::fault::Fault;
-use crate::findings::{Judgement, find};
 use crate::pending_batch::{PendingBatch, empty_batch};
-use crate::refusal::StampRefusal;
+use crate::refusal::{StampRefusal, rule_by};
 use crate::settings::Settings;
-use crate::stamp_start::{Judged, judge_one};
+use crate::stamp_start::judge_one;
 use crate::waiting_stamp::{Waiting, reservation_of};
 use book::{Book, Entry, StoreFault};
 use std::alloc::Global;
@@ -28,7 +27,7 @@ use tsp::Rule;
 
 /// Puts a stamp that was judged behind those before it.
 fn keep<'p, 'a>(
-    judged: Result<Judged<'p, 'a>, StampRefusal>,
+    judged: Result<Waiting<'p, 'a>, StampRefusal>,
     verdicts: &mut Vec<Option<Rule>>,
     waits: &mut Vec<Waiting<'p, 'a>>,
 )
@@ -42,12 +41,11 @@ fn keep<'p, 'a>(
     ensures room_for_waits { vec_capacity waits.new ≡ vec_capacity waits.old }
 {
     match judged {
-        Ok(Judged::Fails(rule)) => verdicts.push_reserved(Some(rule)),
-        Ok(Judged::Waits(waiting)) => {
+        Ok(waiting) => {
             verdicts.push_reserved(None);
             waits.push_reserved(waiting);
         }
-        Err(_) => verdicts.push_reserved(Some(Rule::System)),
+        Err(refusal) => verdicts.push_reserved(Some(rule_by(refusal))),
     }
 }
 
@@ -108,21 +106,26 @@ fn reserve_each<B: Book + Drop>(
 }
 
 /// The rule by which a stamp is rejected once its reservation was refused: one that it fails, or rule 12.
-fn settle_one<B: Book + Drop>(store: &mut B, settings: Settings<'_>, asked: Asked<'_>) -> Rule
-    ensures judges { (reserving : Call) → (reserving ≡ Fine → ⊥) → (why : Refusal) × (o : Outcome)
-        × (result ≡ rule_by why) × JudgesOne B.Standing (settings_view settings.entry) (question_view asked.entry) []
+fn settle_one<B: Book + Drop>(
+    store: &mut B,
+    alloc: Global,
+    settings: Settings<'_>,
+    asked: Asked<'_>,
+) -> Rule
+    ensures { (reserving : Call) → (reserving ≡ Fine → ⊥) → (why : Refusal) × (o : Outcome)
+        × (result ≡ rule_for why) × JudgesOne B.Standing (settings_view settings.entry) (question_view asked.entry) []
         (Settled why o) store.old store.new }
 {
-    match find(store, &[], settings.policy, asked) {
-        Ok(Judgement::Fails(rule)) => rule,
-        Ok(Judgement::Allows(_planned)) => Rule::System,
-        Err(_) => Rule::System,
+    match judge_one(store, alloc, settings, &[], asked) {
+        Ok(_waiting) => Rule::System,
+        Err(refusal) => rule_by(refusal),
     }
 }
 
 /// Judges each stamp anew once the commit of the reservations was refused: none waits. The caller has taken the room.
 fn settle_each<B: Book + Drop>(
     store: &mut B,
+    alloc: Global,
     settings: Settings<'_>,
     asked: &[Asked<'_>],
     verdicts: &mut Vec<Option<Rule>>,
@@ -135,7 +138,7 @@ fn settle_each<B: Book + Drop>(
 {
     verdicts.truncate(0);
     for question in asked {
-        verdicts.push_reserved(Some(settle_one(store, settings, *question)));
+        verdicts.push_reserved(Some(settle_one(store, alloc, settings, *question)));
     }
 }
 
@@ -166,7 +169,7 @@ pub(crate) fn begin_each<'p, 'a, B: Book + Drop>(
     } = empty_batch(alloc, settings, asked.len())?;
     judge_each(store, alloc, settings, asked, &mut verdicts, &mut waits);
     if reserve_each(store, alloc, &waits).is_err() {
-        settle_each(store, settings, asked, &mut verdicts);
+        settle_each(store, alloc, settings, asked, &mut verdicts);
         waits.clear();
     }
     Ok(PendingBatch {

@@ -23,10 +23,11 @@ use crate::keeping::Keeping;
 use crate::laws::steps_keep_their_promises;
 use crate::pending::Pending;
 use crate::reply::{Begun, Reply};
+use crate::reservation::reserve;
 use crate::settings::{Settings, is_proper};
 use crate::stamp::answer_with;
 use crate::stamp_end::finish_with;
-use crate::stamp_start::begin_with;
+use crate::stamp_start::{begun_by, judge_one};
 use crate::succession::install;
 use crate::unsigned_token::reply_with;
 use book::Book;
@@ -154,7 +155,8 @@ impl<'p, B: Book + Drop> Desk<'p, B> {
             reading,
             query,
         };
-        Ok(begin_with(&mut self.store, self.alloc, settings, asked)?)
+        let judged = judge_one(&mut self.store, self.alloc, settings, &[], asked);
+        begun_by(reserve(&mut self.store, settings, judged))
     }
 
     /// Stores the token of a pending stamp over its signature of 1 to 4,096 octets, and answers the granted reply (RFC

@@ -1,5 +1,5 @@
 //! What is found of a request before anything is reserved.
-ghost use Rattle.std.specs.Prelude.{◌≡◌, ℕ, ◌≤◌, List, None, length, IfOk, IfErr};
+ghost use Rattle.std.specs.Prelude.{◌≡◌, ℕ, ◌≤◌, List, None, length, IfOk, IfErr, IsErrAnd};
 ghost use Rattle.policy.specs.View.{policy_view};
 ghost use Rattle.tsp.specs.Request.{Spells};
 ghost use Rattle.tsp.specs.View.{request_view};
@@ -12,13 +12,11 @@ ghost use Rattle.book.specs.Stands.{Stands, OnlyLooks};
 ghost use Rattle.tsp.specs.Rules.{HasVersionOne, IsFirstFailing};
 ghost use Rattle.tsp.specs.declared.rule.Rule.{Rule};
 ghost use Rattle.desk.specs.NewDeposit.{FailsLate};
-ghost use Rattle.desk.specs.Findings.{HoldsUnasked, Finds, Fails};
+ghost use Rattle.desk.specs.Findings.{HoldsUnasked, Finds};
 ghost use Rattle.desk.specs.Outcome.{faults_after};
-ghost use Rattle.desk.specs.Calls.{outcome_of, finding_of, count_for, IsOfLooks, IsSomebodys, HasRequest, IsReadFrom};
-ghost use Rattle.desk.specs.Calls.{HasLast};
+ghost use Rattle.desk.specs.Calls.{outcome_of, finding_of, why_of, count_for, IsOfLooks, IsSomebodys};
 ghost use Rattle.desk.specs.WaitingStamps.{with_waiting};
 
-use crate::batch::Asked;
 use crate::clock_facts::{Looked, look_among};
 use crate::refusal::StampRefusal;
 use crate::waiting_stamp::{Waiting, count_waiting};
@@ -27,7 +25,7 @@ use decide::{ClockState, Facts, Verdict, clock_state, decide, judge_request, ver
 use der::Oid;
 use gentime::GenTime;
 use policy::{Account, Policy};
-use tsp::{Request, Rule, read_request, requests_have_one_reading};
+use tsp::{Request, Rule, requests_have_one_reading};
 
 /// A stamp that no rule refuses: its request, its policy and its genTime, and the greatest serial number so far.
 #[derive(Drop)]
@@ -44,15 +42,6 @@ pub(crate) struct Requested<'q, 'a> {
     pub(crate) account: Option<&'q Account>,
     pub(crate) reading: i64,
     pub(crate) request: Request<'a>,
-}
-
-/// What is found, where each call was answered.
-#[derive(Drop)]
-pub(crate) enum Judgement<'p, 'a> {
-    /// The first rule of 1 to 11 that fails.
-    Fails(Rule),
-    /// None fails.
-    Allows(Planned<'p, 'a>),
 }
 
 /// How many reservations the account has on the day of a genTime, with those that wait.
@@ -88,7 +77,7 @@ fn ask<'p, 'a, B: Book + Drop>(
     waits: &[Waiting<'_, '_>],
     policy: &'p Policy,
     requested: Requested<'_, 'a>,
-) -> Result<Judgement<'p, 'a>, StampRefusal>
+) -> Result<Planned<'p, 'a>, StampRefusal>
     ensures looks { OnlyLooks B.Standing store.old store.new }
     ensures counted { B.fault_count store.new ≡ faults_after (outcome_of result) (B.fault_count store.old) }
     ensures finds { B.honest store.new → (b : History) → Stands B.Standing b store.old
@@ -98,10 +87,11 @@ fn ask<'p, 'a, B: Book + Drop>(
         (request_view requested.entry.request) None
         → Finds (policy_view policy.now) (account_asked requested.entry.account) requested.entry.reading octets
         (outcome_of result) (with_waiting waits.now b) (finding_of result) }
-    ensures same { IfOk result (HasRequest (request_view requested.entry.request)) }
-    ensures late { HasVersionOne (request_view requested.entry.request) → IfOk result FailsLate }
+    ensures same { IfOk result (λ planned. request_view planned.request ≡ request_view requested.entry.request) }
+    ensures late { HasVersionOne (request_view requested.entry.request) → IfErr result (λ r. FailsLate (why_of r)) }
     ensures last { B.honest store.new → (b : History) → Stands B.Standing b store.old
-        → IsSound (with_waiting waits.now b) → IfOk result (HasLast (greatest_serial (with_waiting waits.now b))) }
+        → IsSound (with_waiting waits.now b)
+        → IfOk result (λ planned. planned.last ≡ greatest_serial (with_waiting waits.now b)) }
     ensures somebody { IfErr result (IsSomebodys (account_asked requested.entry.account)) }
     ensures refusals { IfErr result IsOfLooks }
 {
@@ -117,30 +107,32 @@ fn ask<'p, 'a, B: Book + Drop>(
         Err(fault) => return Err(StampRefusal::Looking(fault)),
     };
     let ClockState::Good(gen_time) = clock_state(&policy.counter, &clock) else {
-        return Ok(Judgement::Fails(Rule::Clock));
+        return Err(StampRefusal::Fails(Rule::Clock));
     };
     let count = match count(store, waits, account, gen_time) {
         Ok(count) => count,
         Err(fault) => return Err(StampRefusal::Counting(fault)),
     };
     match decide(policy, account, &request, &Facts { clock, count }) {
-        Verdict::Deny(rule) => Ok(Judgement::Fails(rule)),
-        Verdict::Allow(plan) => Ok(Judgement::Allows(Planned {
+        Verdict::Deny(rule) => Err(StampRefusal::Fails(rule)),
+        Verdict::Allow(plan) => Ok(Planned {
             request,
             policy: plan.policy,
             gen_time: plan.gen_time,
             last: serial,
-        })),
+        }),
     }
 }
 
-/// Judges the rules 2 to 11 of a request in their order, once all that waits is reserved: `find`, once it is read.
+/// Judges the rules 2 to 11 of a request in their order, once all that waits is reserved. One that fails one of the
+/// rules 1 to 9 is refused without a call of the store and without memory; the day is counted only where the clock is
+/// good.
 pub(crate) fn judge<'p, 'a, B: Book + Drop>(
     store: &mut B,
     waits: &[Waiting<'_, '_>],
     policy: &'p Policy,
     requested: Requested<'_, 'a>,
-) -> Result<Judgement<'p, 'a>, StampRefusal>
+) -> Result<Planned<'p, 'a>, StampRefusal>
     ensures looks { OnlyLooks B.Standing store.old store.new }
     ensures counted { B.fault_count store.new ≡ faults_after (outcome_of result) (B.fault_count store.old) }
     ensures finds { B.honest store.new → (b : History) → Stands B.Standing b store.old
@@ -148,55 +140,22 @@ pub(crate) fn judge<'p, 'a, B: Book + Drop>(
         → Spells octets (request_view requested.entry.request) → length octets ≤ 65536
         → Finds (policy_view policy.now) (account_asked requested.entry.account) requested.entry.reading octets
         (outcome_of result) (with_waiting waits.now b) (finding_of result) }
-    ensures same { IfOk result (HasRequest (request_view requested.entry.request)) }
-    ensures late { HasVersionOne (request_view requested.entry.request) → IfOk result FailsLate }
+    ensures same { IfOk result (λ planned. request_view planned.request ≡ request_view requested.entry.request) }
+    ensures late { HasVersionOne (request_view requested.entry.request) → IfErr result (λ r. FailsLate (why_of r)) }
     ensures last { B.honest store.new → (b : History) → Stands B.Standing b store.old
-        → IsSound (with_waiting waits.now b) → IfOk result (HasLast (greatest_serial (with_waiting waits.now b))) }
+        → IsSound (with_waiting waits.now b)
+        → IfOk result (λ planned. planned.last ≡ greatest_serial (with_waiting waits.now b)) }
     ensures unasked { (octets : List ℕ) → Spells octets (request_view requested.entry.request) → length octets ≤ 65536
         → (rule : Rule) → IsFirstFailing (HoldsUnasked (policy_view policy.now)
         (account_asked requested.entry.account) octets) rule
-        → (finding_of result ≡ Fails rule) × (store.new ≡ store.old) }
+        → IsErrAnd result (λ r. r ≡ StampRefusal.Fails rule) × (store.new ≡ store.old) }
     ensures somebody { IfErr result (IsSomebodys (account_asked requested.entry.account)) }
     ensures refusals { IfErr result IsOfLooks }
 {
     requests_have_one_reading();
     verdicts_are_one();
     match judge_request(policy, requested.account, &requested.request) {
-        Some(rule) => Ok(Judgement::Fails(rule)),
+        Some(rule) => Err(StampRefusal::Fails(rule)),
         None => ask(store, waits, policy, requested),
     }
-}
-
-/// Judges the rules 1 to 11 in their order, once all that waits is reserved. A request that fails one of the rules 1 to
-/// 9 is answered without a call of the store and without memory; the day is counted only where the clock is good.
-pub(crate) fn find<'p, 'a, B: Book + Drop>(
-    store: &mut B,
-    waits: &[Waiting<'_, '_>],
-    policy: &'p Policy,
-    asked: Asked<'a>,
-) -> Result<Judgement<'p, 'a>, StampRefusal>
-    ensures looks { OnlyLooks B.Standing store.old store.new }
-    ensures counted { B.fault_count store.new ≡ faults_after (outcome_of result) (B.fault_count store.old) }
-    ensures finds { B.honest store.new → (b : History) → Stands B.Standing b store.old
-        → IsSound (with_waiting waits.now b)
-        → Finds (policy_view policy.now) (account_asked asked.entry.account) asked.entry.reading asked.entry.query.now
-        (outcome_of result) (with_waiting waits.now b) (finding_of result) }
-    ensures read { IfOk result (IsReadFrom asked.entry.query.now) }
-    ensures last { B.honest store.new → (b : History) → Stands B.Standing b store.old
-        → IsSound (with_waiting waits.now b) → IfOk result (HasLast (greatest_serial (with_waiting waits.now b))) }
-    ensures unasked { (rule : Rule)
-        → IsFirstFailing (HoldsUnasked (policy_view policy.now) (account_asked asked.entry.account)
-        asked.entry.query.now) rule → (finding_of result ≡ Fails rule) × (store.new ≡ store.old) }
-    ensures somebody { IfErr result (IsSomebodys (account_asked asked.entry.account)) }
-    ensures refusals { IfErr result IsOfLooks }
-{
-    let Ok(request) = read_request(asked.query) else {
-        return Ok(Judgement::Fails(Rule::Spelling));
-    };
-    let requested = Requested {
-        account: asked.account,
-        reading: asked.reading,
-        request,
-    };
-    judge(store, waits, policy, requested)
 }

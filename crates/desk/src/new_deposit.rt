@@ -1,41 +1,39 @@
 //! A deposit: its stamp, and both in one commit.
-ghost use Rattle.std.specs.Prelude.{◌≡◌, ◌<◌, ◌≤◌, Err, length, IfOk, IfErr};
-ghost use Rattle.der.specs.Node.{IsLawful};
+ghost use Rattle.std.specs.Prelude.{◌≡◌, ◌<◌, ◌≤◌, ℕ, List, Err, length, IfOk, IfErr, IfSome};
 ghost use Rattle.policy.specs.View.{account_view, policy_view};
-ghost use Rattle.tsp.specs.Request.{Spells, time_stamp_req, unstated};
-ghost use Rattle.tsp.specs.Rules.{HasVersionOne};
-ghost use Rattle.tsp.specs.View.{request_view};
-ghost use Rattle.decide.specs.View.{account_asked};
 ghost use Rattle.book.specs.Fault.{CountsFaults, IsOfStorage};
 ghost use Rattle.book.specs.History.{History, deposit_under};
 ghost use Rattle.book.specs.Stands.{Stands, OnlyLooks};
-ghost use Rattle.desk.specs.Answers.{answered};
-ghost use Rattle.desk.specs.Beginnings.{Begins, IsUnwritten};
+ghost use Rattle.desk.specs.Answers.{answered, ended_as};
 ghost use Rattle.desk.specs.CallContract.{IsBareStep, StepsWhere, with_signer};
-ghost use Rattle.desk.specs.Calls.{settings_view};
+ghost use Rattle.desk.specs.Calls.{settings_view, why_of};
 ghost use Rattle.desk.specs.Command.{Deposit};
+ghost use Rattle.desk.specs.Effects.{for_deposit, in_deposit};
 ghost use Rattle.desk.specs.Fault.{IsOfDeposit};
-ghost use Rattle.desk.specs.NewDeposit.{known_in, octets_of, question_of, IsRejectedLate, IsUnused};
+ghost use Rattle.desk.specs.Kept.{kept_as};
+ghost use Rattle.desk.specs.NewDeposit.{known_in, FailsLate, IsUnused};
 ghost use Rattle.desk.specs.Outcome.{Outcome};
 ghost use Rattle.desk.specs.Shown.{deposited_as};
 ghost use Rattle.desk.specs.Texts.{gives_certificate};
+ghost use Rattle.desk.specs.Wholes.{answer_by};
 
 use crate::fault::Fault;
-use crate::findings::{Judgement, Planned, Requested, judge};
+use crate::findings::Requested;
 use crate::keeping::Keeping;
 use crate::obstacle::Obstacle;
 use crate::refusal::StampRefusal;
-use crate::reply::{Begun, Deposited};
-use crate::reservation::{prepare, reserve};
+use crate::reply::Deposited;
+use crate::reservation::reserve;
 use crate::settings::Settings;
 use crate::stamp_end::complete;
-use crate::stamp_start::name_of;
-use book::{Book, GREATEST_NUMBER, StoreFault};
+use crate::stamp_start::judge_read;
+use crate::unsigned_token::Written;
+use book::{Book, StoreFault};
 use cms::Signer;
 use policy::{Account, Policy};
 use sha2::{Digest, Sha256};
 use std::alloc::Global;
-use tsp::{Rejection, Request, requests_have_one_reading, write_request};
+use tsp::{Request, TspFault, requests_have_one_reading, write_request};
 
 /// The most octets of a deposit.
 const MOST: usize = 1_048_576;
@@ -93,44 +91,29 @@ fn gives_certificate(policy: &Policy, account: &Account) -> bool
     }
 }
 
-/// The octets of a request that no rule refuses, where a serial number is left.
-fn octets_of(alloc: Global, planned: &Planned<'_, '_>) -> Result<Vec<u8>, StampRefusal>
-    requires { IsLawful (time_stamp_req unstated (request_view planned.now.request)) }
-    ensures octets { IfOk result (λ octets. octets.items ≡ octets_of (request_view planned.now.request)) }
-    ensures unwritten { IfErr result (IsUnwritten planned.now.last) }
+/// The octets that were written, where there was memory for them.
+fn octets_in(written: &Result<Vec<u8>, TspFault>) -> Option<&[u8]>
+    ensures { (octets : List ℕ) → IfOk written.now (λ owned. owned.items ≡ octets)
+        → IfSome result (λ lent. lent.now ≡ octets) }
 {
-    if planned.last >= GREATEST_NUMBER {
-        return Err(StampRefusal::Exhausted);
+    match written {
+        Ok(octets) => Some(octets.as_slice()),
+        Err(_) => None,
     }
-    write_request(alloc, &planned.request).map_err(|_| StampRefusal::OutOfMemory)
 }
 
-/// Judges a request that no octets are sent of, and reserves the next serial number where no rule fails: its octets are
-/// written then, without its stated FALSEs.
-fn begin<'p, B: Book + Drop>(
-    store: &mut B,
-    alloc: Global,
-    settings: Settings<'p>,
-    requested: Requested<'_, '_>,
-) -> Result<Begun<'p>, StampRefusal>
-    requires spelled { Spells (octets_of (request_view requested.request)) (request_view requested.request) }
-    requires short { length (octets_of (request_view requested.request)) ≤ 65536 }
-    ensures honest { B.honest store.new → B.honest store.old }
-    ensures begins { Begins B.Standing (settings_view settings.entry) (question_of
-        (account_asked requested.entry.account) requested.entry.reading (request_view requested.entry.request)) result
-        store.old store.new }
-    ensures late { HasVersionOne (request_view requested.entry.request) → IfOk result IsRejectedLate }
+/// What is answered of a deposit's stamp that was completed, or refused.
+fn deposited_by(completed: Result<Written, StampRefusal>) -> Result<Deposited, Fault>
+    ensures refusals { IfErr completed (λ r. FailsLate (why_of r)) → IfErr result IsOfDeposit }
+    ensures answer { (owner reference bytes : List ℕ) → answered deposited_as result
+        ≡ answer_by (for_deposit owner reference bytes)
+        (ended_as (kept_as (in_deposit owner reference bytes)) completed) }
 {
-    requests_have_one_reading();
-    let account = name_of(requested.account);
-    match judge(store, &[], settings.policy, requested)? {
-        Judgement::Fails(rule) => Ok(Begun::Rejected(Rejection::of(rule))),
-        Judgement::Allows(planned) => {
-            let octets = octets_of(alloc, &planned)?;
-            let waiting = prepare(alloc, settings, account, &octets, planned)?;
-            Ok(Begun::Pending(reserve(store, settings, waiting)?))
-        }
-    }
+    let kept = completed?;
+    Ok(Deposited {
+        number: kept.serial,
+        is_new: true,
+    })
 }
 
 /// Stamps and stores a deposit whose owner hasn't used the reference. The octets of the deposit are hashed here, and
@@ -151,26 +134,20 @@ fn deposit_new<B: Book + Drop, X: Signer>(
         (IsUnused (account_view submission.entry.account.now) submission.entry.reference.now) o store.old store.new
         (answered deposited_as result) }
 {
+    requests_have_one_reading();
     let policy = settings.policy;
     let account = submission.account;
     let digest = Sha256::digest(submission.bytes);
     let request = Request::of_sha256(&digest, gives_certificate(policy, account));
+    let written = write_request(alloc, &request);
     let requested = Requested {
         account: Some(account),
         reading: submission.reading,
         request,
     };
-    match begin(store, alloc, settings, requested)? {
-        Begun::Rejected(rejection) => Err(Fault::Rejected(rejection.rule)),
-        Begun::Pending(pending) => {
-            let keeping = Keeping::Deposit(submission);
-            let kept = complete(store, alloc, pending, keeping, signer)?;
-            Ok(Deposited {
-                number: kept.serial,
-                is_new: true,
-            })
-        }
-    }
+    let judged = judge_read(store, alloc, settings, &[], requested, octets_in(&written));
+    let begun = reserve(store, settings, judged);
+    deposited_by(complete(store, alloc, begun, Keeping::Deposit(submission), signer))
 }
 
 /// Stamps and stores a deposit, or tells the number under which the owner has deposited the same octets.

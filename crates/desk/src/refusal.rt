@@ -1,15 +1,18 @@
-//! Which call was refused in a command, and by which cause.
+//! Why nothing comes of a stamp.
 ghost use Rattle.std.specs.Prelude.{◌≡◌};
-ghost use Rattle.desk.specs.Effects.{fault_of as fault_for};
-ghost use Rattle.desk.specs.Calls.{store_cause, cause_with};
+ghost use Rattle.desk.specs.Effects.{fault_by, fault_of as fault_for, rule_by as rule_for};
+ghost use Rattle.desk.specs.Calls.{store_cause, why_of};
 
 use crate::fault::Fault;
 use book::StoreFault;
 use cms::SignerFault;
+use tsp::Rule;
 
-/// The call that was refused.
+/// Why nothing comes of a stamp: a rule, or the call that was refused.
 #[derive(Clone, Copy)]
 pub(crate) enum StampRefusal {
+    /// The first rule of 1 to 11 that fails.
+    Fails(Rule),
     /// The facts of the clock.
     Looking(StoreFault),
     /// The account's day.
@@ -38,11 +41,22 @@ pub(crate) fn fault_of(fault: StoreFault) -> Fault
     }
 }
 
+/// The rule by which a stamp is rejected that is refused so: rule 12 where it is no rule.
+pub(crate) fn rule_by(refusal: StampRefusal) -> Rule
+    ensures { result ≡ rule_for (why_of refusal) }
+{
+    match refusal {
+        StampRefusal::Fails(rule) => rule,
+        _ => Rule::System,
+    }
+}
+
 impl From<StampRefusal> for Fault {
-    ghost from_gives = { λ refusal fault. fault ≡ fault_for (cause_with refusal) };
+    ghost from_gives = { λ refusal fault. fault ≡ fault_by (why_of refusal) };
 
     fn from(refusal: StampRefusal) -> Fault {
         match refusal {
+            StampRefusal::Fails(rule) => Fault::Rejected(rule),
             StampRefusal::Looking(fault)
             | StampRefusal::Counting(fault)
             | StampRefusal::Adding(fault)

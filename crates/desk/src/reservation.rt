@@ -1,14 +1,15 @@
 //! How a stamp is reserved.
-ghost use Rattle.std.specs.Prelude.{◌≡◌, ◌≤◌, length, option_map, IfOk, IfErr, IfSome};
+ghost use Rattle.std.specs.Prelude.{◌≡◌, ◌≤◌, ℕ, List, length, option_map, IfOk, IfErr, IfSome};
 ghost use Rattle.gentime.specs.GenTime.{last_moment};
 ghost use Rattle.der.specs.DataValueView.{value_view};
 ghost use Rattle.tsp.specs.Request.{Spells};
 ghost use Rattle.tsp.specs.Tst.{IsTsaName};
 ghost use Rattle.tsp.specs.View.{request_view};
-ghost use Rattle.desk.specs.Calls.{plan_of, settings_view};
+ghost use Rattle.desk.specs.Calls.{plan_of, settings_view, why_of};
 ghost use Rattle.desk.specs.Beginnings.{WaitsFor, IsUnwritten, IsReserved};
+ghost use Rattle.desk.specs.NewDeposit.{FailsLate};
 ghost use Rattle.desk.specs.Succession.{tsa_of};
-ghost use Rattle.desk.specs.WaitingStamps.{HasText};
+ghost use Rattle.desk.specs.Verdicts.{HasItsText, verdict_of};
 
 use crate::commit::add;
 use crate::findings::Planned;
@@ -46,19 +47,21 @@ fn name_in_force<'p>(settings: Settings<'p>) -> Option<DataValue<'p>>
     }
 }
 
-/// Writes the TSTInfo and what is to be signed under the next serial number: all the memory that a reservation takes.
+/// Writes the TSTInfo and what is to be signed under the next serial number: all the memory that a reservation takes,
+/// besides the request's octets.
 pub(crate) fn prepare<'p, 'a>(
     alloc: Global,
     settings: Settings<'p>,
     account: &'a str,
-    query: &'a [u8],
+    query: Option<&'a [u8]>,
     planned: Planned<'p, 'a>,
 ) -> Result<Waiting<'p, 'a>, StampRefusal>
-    requires spelled { Spells query.now (request_view planned.request) }
-    requires short { length query.now ≤ 65536 }
-    ensures waits { IfOk result (WaitsFor (settings_view settings.entry) account.now (plan_of planned.entry) query.now
-        planned.entry.last) }
+    requires spelled { IfSome query (λ q. Spells q.now (request_view planned.request)) }
+    requires short { IfSome query (λ q. length q.now ≤ 65536) }
+    ensures waits { (octets : List ℕ) → IfSome query.entry (λ q. q.now ≡ octets) → IfOk result (WaitsFor
+        (settings_view settings.entry) account.now (plan_of planned.entry) octets planned.entry.last) }
     ensures unwritten { IfErr result (IsUnwritten planned.entry.last) }
+    ensures late { IfErr result (λ r. FailsLate (why_of r)) }
 {
     requests_have_one_reading();
     let Planned {
@@ -70,6 +73,9 @@ pub(crate) fn prepare<'p, 'a>(
     if last >= GREATEST_NUMBER {
         return Err(StampRefusal::Exhausted);
     }
+    let Some(query) = query else {
+        return Err(StampRefusal::OutOfMemory);
+    };
     let serial = last + 1;
     let algorithm = request.algorithm();
     let digest = request.hash();
@@ -107,16 +113,18 @@ pub(crate) fn prepare<'p, 'a>(
     })
 }
 
-/// Reserves what waits. Once the reservation is committed it succeeds.
+/// Reserves what waits, where it was judged so. Once the reservation is committed it succeeds.
 pub(crate) fn reserve<'p, B: Book + Drop>(
     store: &mut B,
     settings: Settings<'p>,
-    waiting: Waiting<'p, '_>,
+    judged: Result<Waiting<'p, '_>, StampRefusal>,
 ) -> Result<Pending<'p>, StampRefusal>
-    requires text { HasText (settings_view settings) waiting }
+    requires text { HasItsText (settings_view settings) (verdict_of judged) }
     ensures honest { B.honest store.new → B.honest store.old }
-    ensures reserves { IsReserved B.Standing (settings_view settings.entry) waiting.entry result store.old store.new }
+    ensures reserves { IsReserved B.Standing (settings_view settings.entry) judged.entry result store.old store.new }
+    ensures late { IfErr judged.entry (λ r. FailsLate (why_of r)) → IfErr result (λ r. FailsLate (why_of r)) }
 {
+    let waiting = judged?;
     let reservation = reservation_of(&waiting);
     add(store, Entry::Reserved(reservation)).map_err(StampRefusal::Adding)?;
     Ok(Pending {

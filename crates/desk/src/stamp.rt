@@ -16,24 +16,26 @@ ghost use Rattle.desk.specs.Wholes.{answer_by};
 
 use crate::batch::Asked;
 use crate::keeping::Keeping;
-use crate::refusal::StampRefusal;
-use crate::reply::{Begun, Reply};
+use crate::refusal::{StampRefusal, rule_by};
+use crate::reply::Reply;
+use crate::reservation::reserve;
 use crate::settings::Settings;
-use crate::stamp_end::{complete, no_answer};
-use crate::stamp_start::begin_with;
+use crate::stamp_end::complete;
+use crate::stamp_start::judge_one;
 use crate::unsigned_token::{Written, reply_with};
 use book::Book;
 use cms::Signer;
 use std::alloc::Global;
+use tsp::Rejection;
 
-/// The reply of a stamp that was reserved: rule 12 where it stays void.
-fn reply_or_no_answer(completed: Result<Written, StampRefusal>) -> Reply
+/// The reply of a stamp that was completed, or refused.
+fn reply_by(completed: Result<Written, StampRefusal>) -> Reply
     requires granted { IfOk completed (λ kept. kept.bytes.items ≡ granted_octets kept.token.items) }
-    ensures { reply_as result ≡ answer_by for_reply.refuses (ended_as (kept_as in_seal) completed) }
+    ensures { reply_as result ≡ answer_by for_reply (ended_as (kept_as in_seal) completed) }
 {
     match completed {
         Ok(written) => reply_with(written),
-        Err(_) => no_answer(),
+        Err(refusal) => Reply::Rejected(Rejection::of(rule_by(refusal))),
     }
 }
 
@@ -54,11 +56,7 @@ pub(crate) fn answer_with<B: Book + Drop, G: Signer>(
         (Stamp (account_asked asked.entry.account) asked.entry.reading asked.entry.query.now) store.old store.new
         (reply_as result) }
 {
-    match begin_with(store, alloc, settings, asked) {
-        Ok(Begun::Pending(pending)) => {
-            reply_or_no_answer(complete(store, alloc, pending, Keeping::Seal, signer))
-        }
-        Ok(Begun::Rejected(rejection)) => Reply::Rejected(rejection),
-        Err(_) => no_answer(),
-    }
+    let judged = judge_one(store, alloc, settings, &[], asked);
+    let begun = reserve(store, settings, judged);
+    reply_by(complete(store, alloc, begun, Keeping::Seal, signer))
 }

@@ -1,15 +1,14 @@
 //! A stamp from its reservation on.
-ghost use Rattle.std.specs.Prelude.{◌≡◌, ◌≤◌, List, ℕ, Ok, Result, length, IfOk, IfErr};
-ghost use Rattle.cms.specs.declared.signer.SignerFault.{SignerFault as SpecFault};
+ghost use Rattle.std.specs.Prelude.{◌≡◌, ◌≤◌, Ok, Err, length, IfOk, IfErr};
 ghost use Rattle.desk.specs.Answers.{reply_as, ended_as};
-ghost use Rattle.desk.specs.Calls.{outcome_of};
+ghost use Rattle.desk.specs.Calls.{outcome_of, why_of};
 ghost use Rattle.tsp.specs.Granted.{granted_octets};
 ghost use Rattle.tsp.specs.declared.rule.Rule.TheVariants.{System};
 ghost use Rattle.desk.specs.CallContract.{with_signer};
 ghost use Rattle.desk.specs.Command.{Rejected};
 ghost use Rattle.desk.specs.Kept.{keeping_view, kept_as};
-ghost use Rattle.desk.specs.Outcome.{Outcome};
-ghost use Rattle.desk.specs.Wholes.{IsOfFinish, Ends, Completes};
+ghost use Rattle.desk.specs.NewDeposit.{FailsLate};
+ghost use Rattle.desk.specs.Wholes.{IsOfFinish, Ends, CompletesBegun};
 
 use crate::commit::add;
 use crate::keeping::{Keeping, entry_with};
@@ -58,21 +57,23 @@ pub(crate) fn finish_with<B: Book + Drop>(
     Ok(written)
 }
 
-/// Has the text of a reservation signed, and keeps the token. Where the signer, memory or the store refuses, the
-/// reservation stays void.
+/// Has the text of a reservation signed, where a stamp was begun, and keeps the token. Where the signer, memory or the
+/// store refuses, the reservation stays void.
 pub(crate) fn complete<B: Book + Drop, X: Signer>(
     store: &mut B,
     alloc: Global,
-    pending: Pending<'_>,
+    begun: Result<Pending<'_>, StampRefusal>,
     keeping: Keeping<'_>,
     signer: &mut X,
 ) -> Result<Written, StampRefusal>
     ensures honest { B.honest store.new → B.honest store.old }
     ensures granted { IfOk result (λ kept. kept.bytes.items ≡ granted_octets kept.token.items) }
-    ensures completes { (signing : Result (List ℕ) SpecFault) × (o : Outcome)
-        × Completes B.Standing (with_signer X.signs X.fault_count signer.old signer.new) (keeping_view keeping.entry)
-        pending.entry signing o store.old store.new (ended_as (kept_as (keeping_view keeping.entry)) result) }
+    ensures unmoved { IfErr begun.entry (λ r. (result ≡ Err r) × (store.new ≡ store.old) × (signer.new ≡ signer.old)) }
+    ensures late { IfErr begun.entry (λ r. FailsLate (why_of r)) → IfErr result (λ r. FailsLate (why_of r)) }
+    ensures completes { CompletesBegun B.Standing (with_signer X.signs X.fault_count signer.old signer.new)
+        (keeping_view keeping.entry) begun.entry store.old store.new result }
 {
+    let pending = begun?;
     match signer.sign(pending.text()) {
         Ok(signature) => finish_with(store, alloc, pending, &signature, keeping),
         Err(fault) => {

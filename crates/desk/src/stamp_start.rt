@@ -1,33 +1,35 @@
 //! A stamp up to its reservation.
-ghost use Rattle.std.specs.Prelude.{◌≡◌, [], Ok, IfErr};
-ghost use Rattle.policy.specs.View.{policy_view};
-ghost use Rattle.tsp.specs.Rules.{IsFirstFailing};
-ghost use Rattle.tsp.specs.declared.rule.Rule.{Rule};
+ghost use Rattle.std.specs.Prelude.{◌≡◌, ◌⊎◌, ℕ, ◌≤◌, List, length, IfSome, IfErr};
+ghost use Rattle.tsp.specs.Request.{Spells};
+ghost use Rattle.tsp.specs.Rules.{HasVersionOne};
+ghost use Rattle.tsp.specs.View.{request_view};
 ghost use Rattle.decide.specs.View.{account_asked};
-ghost use Rattle.desk.specs.Answers.{begun_as, told};
-ghost use Rattle.desk.specs.Beginnings.{Begins, IsOfJudging, ByRule};
-ghost use Rattle.desk.specs.Calls.{outcome_of, settings_view};
-ghost use Rattle.desk.specs.Command.{Rejected};
-ghost use Rattle.desk.specs.Effects.{name_of};
-ghost use Rattle.desk.specs.Findings.{HoldsUnasked};
-ghost use Rattle.desk.specs.Outcome.{all_fine, faults_after};
-ghost use Rattle.desk.specs.Together.{question_view};
-ghost use Rattle.desk.specs.Verdicts.{JudgesOne, Settled, verdict_of};
+ghost use Rattle.desk.specs.Answers.{begun_as, answered, ended_as};
+ghost use Rattle.desk.specs.Beginnings.{IsOfBeginning};
+ghost use Rattle.desk.specs.Calls.{settings_view, why_of};
+ghost use Rattle.desk.specs.Command.{Begun as SpecBegun};
+ghost use Rattle.desk.specs.Effects.{for_parts, name_of};
+ghost use Rattle.desk.specs.NewDeposit.{FailsLate};
+ghost use Rattle.desk.specs.Together.{question_view, question_with};
+ghost use Rattle.desk.specs.Verdicts.{JudgesAs};
+ghost use Rattle.desk.specs.Wholes.{answer_by};
 
 use crate::batch::Asked;
-use crate::findings::{Judgement, find};
+use crate::fault::Fault;
+use crate::findings::{Requested, judge};
+use crate::pending::Pending;
 use crate::refusal::StampRefusal;
 use crate::reply::Begun;
-use crate::reservation::{prepare, reserve};
+use crate::reservation::prepare;
 use crate::settings::Settings;
 use crate::waiting_stamp::Waiting;
 use book::Book;
 use policy::Account;
 use std::alloc::Global;
-use tsp::{Rejection, Rule};
+use tsp::{Rejection, Rule, read_request};
 
 /// The account's name, for which a stamp is reserved.
-pub(crate) fn name_of<'a>(account: Option<&'a Account>) -> &'a str
+fn name_of<'a>(account: Option<&'a Account>) -> &'a str
     ensures { result.now ≡ name_of (account_asked account.entry) }
 {
     match account {
@@ -36,59 +38,65 @@ pub(crate) fn name_of<'a>(account: Option<&'a Account>) -> &'a str
     }
 }
 
-/// How a stamp is judged.
-#[derive(Drop)]
-pub(crate) enum Judged<'p, 'a> {
-    /// It is rejected by the first rule of 1 to 11 that fails.
-    Fails(Rule),
-    /// None fails, and its texts are written.
-    Waits(Waiting<'p, 'a>),
+/// Judges a request that was read by the history with the reservations of those that wait, and writes its texts where
+/// no rule refuses it. It has its octets, unless there was no memory for them.
+pub(crate) fn judge_read<'p, 'a, B: Book + Drop>(
+    store: &mut B,
+    alloc: Global,
+    settings: Settings<'p>,
+    waits: &[Waiting<'_, '_>],
+    requested: Requested<'a, 'a>,
+    query: Option<&'a [u8]>,
+) -> Result<Waiting<'p, 'a>, StampRefusal>
+    requires spelled { IfSome query (λ q. Spells q.now (request_view requested.request)) }
+    requires short { IfSome query (λ q. length q.now ≤ 65536) }
+    ensures judges { (octets : List ℕ) → Spells octets (request_view requested.entry.request) → length octets ≤ 65536
+        → IfSome query.entry (λ q. q.now ≡ octets) → JudgesAs B.Standing (settings_view settings.entry)
+        (question_with requested.entry octets) waits.now result store.old store.new }
+    ensures late { HasVersionOne (request_view requested.entry.request) → IfErr result (λ r. FailsLate (why_of r)) }
+{
+    let account = name_of(requested.account);
+    let planned = judge(store, waits, settings.policy, requested)?;
+    prepare(alloc, settings, account, query, planned)
 }
 
 /// Judges a stamp by the history with the reservations of those that wait, and writes its texts where no rule refuses
-/// it. A refusal tells the call that was refused.
+/// it.
 pub(crate) fn judge_one<'p, 'a, B: Book + Drop>(
     store: &mut B,
     alloc: Global,
     settings: Settings<'p>,
     waits: &[Waiting<'_, '_>],
     asked: Asked<'a>,
-) -> Result<Judged<'p, 'a>, StampRefusal>
-    ensures judges { JudgesOne B.Standing (settings_view settings.entry) (question_view asked.entry) waits.now
-        (verdict_of result) store.old store.new }
-    ensures counted { B.fault_count store.new ≡ faults_after (outcome_of result) (B.fault_count store.old) }
-    ensures unasked { (rule : Rule) → IsFirstFailing (HoldsUnasked (policy_view settings.entry.policy.now)
-        (account_asked asked.entry.account) asked.entry.query.now) rule
-        → (verdict_of result ≡ Settled (ByRule rule) (all_fine (Ok []))) × (store.new ≡ store.old) }
-    ensures refusals { IfErr result IsOfJudging }
+) -> Result<Waiting<'p, 'a>, StampRefusal>
+    ensures { JudgesAs B.Standing (settings_view settings.entry) (question_view asked.entry) waits.now result store.old
+        store.new }
 {
-    match find(store, waits, settings.policy, asked)? {
-        Judgement::Fails(rule) => Ok(Judged::Fails(rule)),
-        Judgement::Allows(planned) => {
-            let account = name_of(asked.account);
-            let waiting = prepare(alloc, settings, account, asked.query, planned)?;
-            Ok(Judged::Waits(waiting))
-        }
-    }
+    let Asked {
+        account,
+        reading,
+        query,
+    } = asked;
+    let Ok(request) = read_request(query) else {
+        return Err(StampRefusal::Fails(Rule::Spelling));
+    };
+    let requested = Requested {
+        account,
+        reading,
+        request,
+    };
+    judge_read(store, alloc, settings, waits, requested, Some(query))
 }
 
-/// Judges a request, and reserves the next serial number where no rule fails. A refusal tells the call that was
-/// refused.
-pub(crate) fn begin_with<'p, B: Book + Drop>(
-    store: &mut B,
-    alloc: Global,
-    settings: Settings<'p>,
-    asked: Asked<'_>,
-) -> Result<Begun<'p>, StampRefusal>
-    ensures honest { B.honest store.new → B.honest store.old }
-    ensures begins { Begins B.Standing (settings_view settings.entry) (question_view asked.entry) result store.old
-        store.new }
-    ensures unasked { (rule : Rule) → IsFirstFailing (HoldsUnasked (policy_view settings.entry.policy.now)
-        (account_asked asked.entry.account) asked.entry.query.now) rule
-        → (told begun_as result ≡ Rejected rule) × (store.new ≡ store.old) }
+/// What `begin` answers of a stamp that was begun, or refused.
+pub(crate) fn begun_by<'p>(begun: Result<Pending<'p>, StampRefusal>) -> Result<Begun<'p>, Fault>
+    requires beginning { IfErr begun IsOfBeginning }
+    ensures answer { answered begun_as result ≡ answer_by for_parts (ended_as SpecBegun begun.entry) }
+    ensures refusals { IfErr result (λ fault. (fault ≡ Fault.Memory) ⊎ (fault ≡ Fault.Store)) }
 {
-    match judge_one(store, alloc, settings, &[], asked)? {
-        Judged::Fails(rule) => Ok(Begun::Rejected(Rejection::of(rule))),
-        Judged::Waits(waiting) => Ok(Begun::Pending(reserve(store, settings, waiting)?)),
+    match begun {
+        Ok(pending) => Ok(Begun::Pending(pending)),
+        Err(StampRefusal::Fails(rule)) => Ok(Begun::Rejected(Rejection::of(rule))),
+        Err(refusal) => Err(Fault::from(refusal)),
     }
 }

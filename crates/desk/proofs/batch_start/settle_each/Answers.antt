@@ -27,7 +27,7 @@ loop-question-preserved g c =
       many = push.ensures.len ∙ ap (λ n. n + 1) l.invariant.many;
       room = omega (arith, l.invariant.room, push.ensures.capacity);
       judges = λ reserving refusal.
-          let one = c.settle_one.ensures.judges reserving refusal in
+          let one = c.settle_one.ensures reserving refusal in
           subst (λ qs. JudgesEach g.B.Standing s qs push.new.self.items [] c.args.store.now c.settle_one.new.store)
           (asked_more asked i q c.loop-question-test.true c.question-item.is)
           (judges_next g.B.Standing s (questions_view (take i asked)) (question_view q) l.verdicts.items

@@ -1,10 +1,13 @@
-use Rattle.std.proofs.Common.{refl}
+use Rattle.std.proofs.Common.{refl, ap}
 use Rattle.policy.specs.View.{policy_view}
 use Rattle.tsp.specs.View.{request_view}
 use Rattle.decide.specs.View.{account_asked}
 use Rattle.desk.specs.Facts.{facts_of}
+use Rattle.desk.specs.Findings.{HoldsUnasked}
 use Rattle.desk.specs.WaitingStamps.{with_waiting}
-use Rattle.desk.proofs.Judgement.{one_unasked, unasked_first, unasked_lifted, first_lifted, answered_for}
+use Rattle.desk.specs.declared.refusal.StampRefusal.TheVariants as refusal
+use Rattle.desk.proofs.Headline.{one_first}
+use Rattle.desk.proofs.Judgement.{unasked_first, unasked_lifted, first_lifted, answered_for}
 use Rattle.desk.proofs.Late.{late_of}
 use Rattle.desk.proofs.findings.judge.Goals as goal
 
@@ -26,10 +29,10 @@ returns-in-Some-clause-unasked g c octets spelled short rule first =
     let file = policy_view c.args.policy.now in
     let account = account_asked c.args.requested.account in
     let r = request_view c.args.requested.request in (
-      one_unasked file account octets c.in-Some.rule rule
+      ap refusal.Fails (one_first (HoldsUnasked file account octets) c.in-Some.rule rule
           (unasked_first file account octets r spelled
           (λ s h. c.requests_have_one_reading.ensures.one octets r s spelled h) short c.in-Some.rule
-          c.in-Some.ensures.first) first,
+          c.in-Some.ensures.first) first),
       refl,
     )
 

@@ -6,7 +6,7 @@ use Rattle.tsp.specs.Tst.{answer, tst_info}
 use Rattle.tsp.specs.View.{request_view}
 use Rattle.cms.specs.SignedData.{attribute_text}
 use Rattle.desk.specs.Calls.{settings_view, plan_of}
-use Rattle.desk.specs.Texts.{tst_of}
+use Rattle.desk.specs.Texts.{tst_of, reservation_of}
 use Rattle.desk.proofs.BatchJudgement.{next_is}
 use Rattle.desk.proofs.reservation.prepare.Goals as goal
 
@@ -15,13 +15,14 @@ write_tst-requires-clause-lawful c =
     let counter = c.args.settings.policy.now.counter in
     let oid = subst IsOid (sym c.of.ensures.same) c.of.ensures.oid in
     subst (λ t. IsLawful (tst_info t)) (sym c.into_tst_info-tst_info.ensures)
-    (c.requests_have_one_reading.ensures.answer c.args.query.now (request_view c.args.planned.request)
-    c.requires.spelled c.requires.short c.of.result (c.args.planned.last + 1) c.args.planned.gen_time
-    counter.accuracy_us counter.ordering (option_map value_view c.name_in_force.result) oid (omega arith) (omega arith)
+    (c.requests_have_one_reading.ensures.answer c.in-Some.query.now (request_view c.args.planned.request)
+    (rw c.in-Some.is at c.requires.spelled) (rw c.in-Some.is at c.requires.short) c.of.result
+    (c.args.planned.last + 1) c.args.planned.gen_time counter.accuracy_us counter.ordering
+    (option_map value_view c.name_in_force.result) oid (omega arith) (omega arith)
     c.micros_of-micros.ensures.within counter.accuracy_some counter.accuracy c.name_in_force.ensures.fitting).1
 
 pub returns-clause-waits : goal.returns-clause-waits
-returns-clause-waits c =
+returns-clause-waits c octets given =
     let s = settings_view c.args.settings in
     let counter = c.args.settings.policy.now.counter in
     let planned = c.args.planned in
@@ -36,9 +37,10 @@ returns-clause-waits c =
     let tst : c.in-Ok.tst.items ≡ tst_of s plan serial = c.in-Ok.ensures.text ∙ ap (λ t. encoding (tst_info t)) made in
     record {
       left = omega (arith, c.if-last-ge-GREATEST_NUMBER.false);
-      reserves = next_is s c.args.account.now plan c.args.query.now serial c.micros_of-micros.result
+      reserves = next_is s c.args.account.now plan c.in-Some.query.now serial c.micros_of-micros.result
           c.algorithm-algorithm.result.now c.hash-digest.result.now c.in-Ok.tst.items c.micros_of-micros.ensures.same
-          c.algorithm-algorithm.ensures c.hash-digest.ensures tst;
+          c.algorithm-algorithm.ensures c.hash-digest.ensures tst
+          ∙ ap (λ query. reservation_of s c.args.account.now plan query serial) (rw c.in-Some.is at given);
       pending = ap (λ certificate. record {
         serial = serial;
         tst = c.in-Ok.tst.items;

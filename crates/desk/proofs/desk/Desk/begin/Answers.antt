@@ -1,38 +1,50 @@
-use Rattle.std.proofs.Common.{[], Ok, Err, refl, ap, SFits, w64, to_z-of_z, rules}
+use Rattle.std.proofs.Common.{[], refl, sym, ap, ◌∙◌, subst, SFits, w64, to_z-of_z, rules}
+use Rattle.tsp.specs.Rules.{IsFirstFailing}
 use Rattle.decide.specs.View.{account_asked}
-use Rattle.desk.specs.Answers.{begun_as, answered}
-use Rattle.desk.specs.Calls.{refused, cause_with, settings_view}
-use Rattle.desk.specs.Command.{Begin, Refused}
-use Rattle.desk.specs.Effects.{fault_of}
-use Rattle.desk.specs.Outcome.{all_fine}
+use Rattle.desk.specs.Answers.{begun_as, answered, ended_as}
+use Rattle.desk.specs.Calls.{outcome_of, settings_view}
+use Rattle.desk.specs.Command.{Begin, Begun}
+use Rattle.desk.specs.Effects.{for_parts}
+use Rattle.desk.specs.Findings.{HoldsUnasked}
 use Rattle.desk.specs.CallContract.{no_signer}
-use Rattle.desk.proofs.Beginnings.{begins_steps}
-use Rattle.desk.proofs.Opened.{steps_opened, refused_as}
+use Rattle.desk.specs.Wholes.{answer_by}
+use Rattle.desk.proofs.Beginnings.{begins, begins_steps, begins_refused, begins_unasked}
+use Rattle.desk.proofs.Opened.{steps_opened}
 use Rattle.desk.proofs.desk.Desk.begin.Goals as goal
+
+pub reserve-requires : goal.reserve-requires
+reserve-requires g c = record { text = c.judge_one-judged.ensures.judges.rightly.text }
+
+pub begun_by-requires : goal.begun_by-requires
+begun_by-requires g c = record {
+  beginning = begins_refused g.B.Standing (settings_view c.self.inside.settings) _ c.reserve.result c.self.inside.store
+      c.reserve.new.store (begins g.B.Standing (settings_view c.self.inside.settings) _ c.judge_one-judged.result
+      c.reserve.result c.self.inside.store c.judge_one-judged.new.store c.reserve.new.store c.judge_one-judged.ensures
+      c.reserve.ensures.reserves);
+}
 
 pub returns-clause-step : goal.returns-clause-step
 returns-clause-step g c =
+    let s = settings_view c.self.inside.settings in
     let reading : SFits w64 c.args.reading = search rules in
-    let says = begun_as c.in_ok-begin_with.field-0 in
+    let reserved = c.reserve.result in
     steps_opened g.B.Standing c.steps_keep_their_promises.ensures no_signer
-    (record { setting = settings_view c.self.inside.settings; store = c.self.inside.store }) c.args.self.now _
-    (Begin (account_asked c.args.account) c.args.reading c.args.query.now) (all_fine (Ok [])) c.begin_with.new.store says
-    says (λ s a. refl) c.self.view_is
-    (ap (λ r. Begin (account_asked c.args.account) r c.args.query.now) (to_z-of_z reading)) refl
-    (begins_steps g.B.Standing (settings_view c.self.inside.settings) _ (Ok c.in_ok-begin_with.field-0)
-    c.self.inside.store c.begin_with.new.store c.in_ok-begin_with.ensures.begins)
+    (record { setting = s; store = c.self.inside.store }) c.args.self.now _
+    (Begin (account_asked c.args.account) c.args.reading c.args.query.now) (outcome_of reserved) c.reserve.new.store
+    (answer_by for_parts (ended_as (λ p. Begun p) reserved)) (answered begun_as c.begun_by.result) (λ s a. refl)
+    c.self.view_is (ap (λ r. Begin (account_asked c.args.account) r c.args.query.now) (to_z-of_z reading))
+    c.begun_by.ensures.answer
+    (begins_steps g.B.Standing s _ reserved c.self.inside.store c.reserve.new.store
+    (begins g.B.Standing s _ c.judge_one-judged.result reserved c.self.inside.store c.judge_one-judged.new.store
+    c.reserve.new.store c.judge_one-judged.ensures c.reserve.ensures.reserves))
 
-pub returns-in_err-begin_with-clause-step : goal.returns-in_err-begin_with-clause-step
-returns-in_err-begin_with-clause-step g c =
-    let reading : SFits w64 c.args.reading = search rules in
-    let r = c.in_err-begin_with.field-0.0 in
-    let fault = fault_of (cause_with r) in
-    steps_opened g.B.Standing c.steps_keep_their_promises.ensures no_signer
-    (record { setting = settings_view c.self.inside.settings; store = c.self.inside.store }) c.args.self.now _
-    (Begin (account_asked c.args.account) c.args.reading c.args.query.now) (refused r) c.begin_with.new.store
-    (Refused fault) (answered begun_as c.from_residual.result) (λ s a. refl) c.self.view_is
-    (ap (λ r. Begin (account_asked c.args.account) r c.args.query.now) (to_z-of_z reading))
-    (refused_as begun_as c.from_residual.result fault c.from_residual.ensures.1)
-    (begins_steps g.B.Standing (settings_view c.self.inside.settings) _ (Err r) c.self.inside.store
-    c.begin_with.new.store
-    c.in_err-begin_with.ensures.begins)
+pub returns-clause-unasked : goal.returns-clause-unasked
+returns-clause-unasked g c rule first =
+    let s = settings_view c.self.inside.settings in
+    let unasked = begins_unasked g.B.Standing s _ [] c.judge_one-judged.result c.reserve.result c.self.inside.store
+    c.judge_one-judged.new.store c.reserve.new.store c.judge_one-judged.ensures c.reserve.ensures.reserves rule
+    (subst (λ d. IsFirstFailing (HoldsUnasked d.setting.file (account_asked c.args.account) c.args.query.now) rule)
+    (sym c.self.view_is) first) in (
+      c.begun_by.ensures.answer ∙ ap (λ r. answer_by for_parts (ended_as (λ p. Begun p) r)) unasked.0,
+      ap (λ store. record { setting = s; store = store }) unasked.1 ∙ c.self.view_is,
+    )

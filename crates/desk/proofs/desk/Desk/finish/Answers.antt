@@ -1,8 +1,8 @@
 use Rattle.std.proofs.Common.{[], Ok, refl, sym, subst}
 use Rattle.desk.specs.Answers.{reply_as, answered}
-use Rattle.desk.specs.Calls.{refused, cause_with, settings_view}
+use Rattle.desk.specs.Calls.{refused, why_of, settings_view}
 use Rattle.desk.specs.Command.{Answer, Finish, Refused}
-use Rattle.desk.specs.Effects.{fault_of, in_seal}
+use Rattle.desk.specs.Effects.{fault_by, in_seal}
 use Rattle.desk.specs.Outcome.{all_fine}
 use Rattle.desk.specs.CallContract.{no_signer}
 use Rattle.desk.specs.Wholes.{Ends}
@@ -26,7 +26,7 @@ pub returns-in_err-kept-clause-step : goal.returns-in_err-kept-clause-step
 returns-in_err-kept-clause-step g c =
     let command = Finish c.args.pending c.args.signature.now in
     let r = c.in_err-kept.field-0.0 in
-    let fault = fault_of (cause_with r) in
+    let fault = fault_by (why_of r) in
     steps_opened g.B.Standing c.steps_keep_their_promises.ensures no_signer
     (record { setting = settings_view c.self.inside.settings; store = c.self.inside.store }) c.args.self.now
     command command (refused r) c.finish_with.new.store (Refused fault) (answered reply_as c.from_residual.result)
