@@ -1,25 +1,26 @@
 -- The answer with an extract: its head, and then its octets as they come.
-use Rattle.std.proofs.Common.{◌≡◌, ◌∙◌, ℕ, ℤ, ◌+◌, ◌<◌, ◌≤◌, List, [], ◌++◌, Option, None, Some, length, take, refl, sym}
-use Rattle.std.proofs.Common.{ap, subst, length-append, length-take-le, arith}
+use Rattle.std.proofs.Common.{◌≡◌, ◌∙◌, ℕ, ℤ, ◌+◌, ◌-◌, ◌^◌, ◌<◌, ◌≤◌, List, [], ◌++◌, Option, None, Some, length, take}
+use Rattle.std.proofs.Common.{refl, sym, ap, subst, length-append, length-take-le, arith, inl, inr}
 use Rattle.std.proofs.KnownBytes.{Appends-nil, Appends-trans}
 use Rattle.std.proofs.lemmas.List.{take-append-le, take_all}
 use Rattle.std.specs.Io.KnownBytes.{Appends, Keeps}
-use Rattle.std.specs.Prelude.{◌≢◌, Result, codes}
+use Rattle.std.specs.Prelude.{◌≢◌, ◌⊎◌, MatchResult, Result, Ok, Err, codes}
 use Rattle.book.specs.declared.standing.Standing.{Ghosts}
 use Rattle.book.specs.History.{History}
 use Rattle.book.specs.Stands.{OnlyLooks, Stands}
 use Rattle.audit.specs.Auditor.{ComesWhere, IfUnasked, IsAllowed}
 use Rattle.audit.specs.Extract.{extract_text}
+use Rattle.audit.specs.Failures.{StopsFor}
 use Rattle.audit.specs.Fault.{count_after}
 use Rattle.audit.specs.Writes.{Writes}
 use Rattle.audit.specs.declared.fault.ExtractFault.{ExtractFault}
-use Rattle.audit.specs.declared.fault.ExtractFault.TheVariants.{Write}
+use Rattle.audit.specs.declared.fault.ExtractFault.TheVariants.{NotAuditor, Range, Memory, Store, Write}
 use Rattle.policy.specs.Record.{AccountValue, PolicyValue}
 use Rattle.service.specs.Answers.{AnswerValue, allow_line, answer_text, content_lines, crlf, extract_answer, head_text}
 use Rattle.service.specs.Answers.{refusal_answer, status_line, success}
-use Rattle.service.specs.ExtractAnswers.{SendsExtract, ServesExtract, extracted, kept_back}
+use Rattle.service.specs.ExtractAnswers.{SendingFails, SendsExtract, ServesExtract, extracted, kept_back}
 use Rattle.service.specs.Refusals.{refusal_of_extract}
-use Rattle.service.specs.Served.{Sends, SendsOctets}
+use Rattle.service.specs.Served.{Sends, SendsOctets, IsCutBehindHead, TellsExtractFailure}
 use Rattle.service.specs.declared.answer.Media.TheVariants as media
 use Rattle.service.specs.declared.refusal.Refusal.{Refusal}
 use Rattle.service.specs.declared.served.Served.{Served}
@@ -100,6 +101,68 @@ module _ {B W : Type 0} (g : Ghosts B) (contents : W → Option (List ℕ)) (rea
           (rows.written, (refl, subst P (sym (text_of reading head rows.written count states is)) joined));
     }
 
+-- what is told of failures while it is written
+module _ {B : Type 0} (g : Ghosts B) (reading : ℤ) (old new : B) (from to count : ℕ) (before after : Option ℕ)
+    (head : List ℕ) (states : head ≡ extract_head reading count) where
+  abbrev Fails : Served → Type 0
+  Fails outcome = SendingFails g reading old new from to count before after outcome
+
+  pub too_long : (status sent : ℕ) → 2 ^ 64 ≤ length head + count → Fails (served.WriteFailed status sent)
+  too_long status sent long = λ honest b stands is.
+      let body = extract_text from to b in
+      inr (inr (omega (
+        arith,
+        long,
+        is,
+        ap length (text_of reading head body count states is),
+        length-append head body,
+      )))
+
+  behind_head : (octets : ℕ) (fault : ExtractFault) → (fault ≡ Memory) ⊎ (fault ≡ Store)
+      → g.fault_count new ≡ count_after fault (g.fault_count old) → (b : History)
+      → count ≡ length (extract_text from to b)
+      → IsCutBehindHead reading from to b (g.fault_count old) (g.fault_count new) (length head + octets)
+  behind_head octets fault of counted b is = record {
+    headed = omega (arith, ap length states, ap (λ n. length (extract_head reading n)) is);
+    fault = fault;
+    of = of;
+    counted = counted;
+  }
+
+  module _ (file : PolicyValue) (account : AccountValue) (allowed : IsAllowed file account from to) (octets : ℕ)
+      (out out' : Option (List ℕ)) where
+    pub rows_fail : (outcome : Result (Unit {0}) ExtractFault) → Writes g old new out out' from to octets outcome
+        → MatchResult outcome (λ done. IsAllowed file account from to) (ComesWhere file account from to)
+        → MatchResult outcome (λ done. g.fault_count new ≡ g.fault_count old)
+        (λ e. g.fault_count new ≡ count_after e (g.fault_count old))
+        → (g.honest new → (b : History) → Stands g b old → outcome ≡ Err Write
+        → StopsFor count (length (extract_text from to b)) before after)
+        → octets < count → (status : ℕ) → Fails (served.WriteFailed status (length head + octets))
+    rows_fail (Ok done) rows comes counted stopped short status = λ honest b stands is.
+        absurd (omega (arith, short, is, rows.count, ap length (rows.whole honest b stands)))
+    rows_fail (Err NotAuditor) rows comes counted stopped short status = absurd (comes allowed.auditor)
+    rows_fail (Err Range) rows comes counted stopped short status = absurd (comes.1 allowed.range)
+    rows_fail (Err Memory) rows comes counted stopped short status = λ honest b stands is.
+        inr (inl (behind_head octets Memory (inl refl) counted b is))
+    rows_fail (Err Store) rows comes counted stopped short status = λ honest b stands is.
+        inr (inl (behind_head octets Store (inr refl) counted b is))
+    rows_fail (Err Write) rows comes counted stopped short status = λ honest b stands is.
+        elim (stopped honest b stands refl) [
+          | inl long ↦ absurd (omega (arith, long, is))
+          | inr failed ↦ inl failed
+        ]
+
+    pub none_failed : (outcome : Result (Unit {0}) ExtractFault) → Writes g old new out out' from to octets outcome
+        → MatchResult outcome (λ done. after ≡ before) (λ e. e ≢ Write → after ≡ before) → count ≤ octets
+        → (status : ℕ) → Fails (served.Answered status)
+    none_failed (Ok done) rows kept whole status = λ honest b stands is. kept
+    none_failed (Err Write) rows kept whole status = λ honest b stands is.
+        absurd (omega (arith, whole, is, rows.cut honest b stands refl))
+    none_failed (Err NotAuditor) rows kept whole status = λ honest b stands is. kept (λ same. cc)
+    none_failed (Err Range) rows kept whole status = λ honest b stands is. kept (λ same. cc)
+    none_failed (Err Memory) rows kept whole status = λ honest b stands is. kept (λ same. cc)
+    none_failed (Err Store) rows kept whole status = λ honest b stands is. kept (λ same. cc)
+
 -- what stands behind octets that stayed stands behind those before
 kept_appends : (a b c : Option (List ℕ)) (bs : List ℕ) → Keeps a b → Appends b c bs → Appends a c bs
 kept_appends None b c bs keeps more = tt
@@ -168,3 +231,26 @@ module _ {B W : Type 0} (g : Ghosts B) (contents : W → Option (List ℕ)) (rea
       (λ honest b stands. sent_behind contents reading w mid w' keeps (extract_answer from to b) outcome
       (s.sent honest b (first.stands b stands) (length_is (second.honest honest) b stands)))
       (octets_behind contents reading w mid w' keeps outcome s.told)
+
+-- what is told where its length isn't found for the writer
+pub unfound_fails : (reading : ℤ) (from to : ℕ) (b : History) (faults faults' status : ℕ) (before after : Option ℕ)
+    → StopsFor (2 ^ 64 - 1) (length (extract_text from to b)) before after
+    → TellsExtractFailure reading from to b faults faults' before after (served.WriteFailed status 0)
+unfound_fails reading from to b faults faults' status before after (inl long) =
+    let body = extract_text from to b in
+    inr (inr (omega (arith, long, length-append (extract_head reading (length body)) body)))
+unfound_fails reading from to b faults faults' status before after (inr failed) = inl failed
+
+-- what is told where it is found, and none failed till then
+pub found_fails : {B : Type 0} (g : Ghosts B) (reading : ℤ) (old found new : B) (from to count : ℕ)
+    (before mid after : Option ℕ) (outcome : Served) → OnlyLooks g old found → OnlyLooks g found new
+    → (g.honest found → (b : History) → Stands g b old → count ≡ length (extract_text from to b))
+    → g.fault_count found ≡ g.fault_count old → mid ≡ before
+    → SendingFails g reading found new from to count mid after outcome → g.honest new → (b : History) → Stands g b old
+    → TellsExtractFailure reading from to b (g.fault_count old) (g.fault_count new) before after outcome
+found_fails g reading old found new from to count before mid after outcome first second length_is counted kept fails
+    honest b stands =
+    let P : ℕ → Type 0 = λ n. TellsExtractFailure reading from to b n (g.fault_count new) before after outcome in
+    let Q : Option ℕ → Type 0 =
+    λ f. TellsExtractFailure reading from to b (g.fault_count found) (g.fault_count new) f after outcome in
+    subst P counted (subst Q kept (fails honest b (first.stands b stands) (length_is (second.honest honest) b stands)))

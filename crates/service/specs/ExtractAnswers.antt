@@ -11,8 +11,15 @@ use Rattle.audit.specs.declared.fault.ExtractFault.{ExtractFault}
 use Rattle.audit.specs.declared.fault.ExtractFault.TheVariants.{Write}
 use Rattle.service.specs.Answers.{extract_answer, refusal_answer}
 use Rattle.service.specs.Refusals.{refusal_of_extract}
-use Rattle.service.specs.Served.{Sends, SendsOctets}
+use Rattle.service.specs.Served.{Sends, SendsOctets, TellsExtractFailure}
 use Rattle.service.specs.declared.served.Served.{Served}
+
+-- what the writer tells of its failures where an extract is written that is found to have so many octets
+abbrev pub SendingFails : {B : Type 0} → Ghosts B → ℤ → B → B → (from to count : ℕ) → (before after : Option ℕ) → Served
+    → Type 0
+SendingFails g reading old new from to count before after outcome =
+    g.honest new → (b : History) → Stands g b old → count ≡ length (extract_text from to b)
+    → TellsExtractFailure reading from to b (g.fault_count old) (g.fault_count new) before after outcome
 
 module _ {B W : Type 0} (g : Ghosts B) (contents : W → Option (List ℕ)) (reading : ℤ) (w w' : W) (old new : B) where
   -- the extract's answer is written whose body is found to have so many octets

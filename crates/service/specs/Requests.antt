@@ -38,12 +38,6 @@ pub data Asked : Type 0 where
   Step : Command → Asked
   Look : Report → Asked
 
--- it is looked up row by row, and given up where the output has no more time
-abbrev pub IsByRows : Result Asked Refusal → Type 0
-IsByRows (Ok (Step (ListAll account))) = Unit {0}
-IsByRows (Ok (Look (Extract account from to))) = Unit {0}
-IsByRows other = ⊥
-
 -- an active account and the reference of its deposit
 abbrev pub account_and_reference : PolicyValue → HeadValue → Result (AccountValue × List ℕ) Refusal
 account_and_reference file h = do

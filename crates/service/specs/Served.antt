@@ -1,6 +1,7 @@
 -- What `serve_one` does: it reads one request, has the desk take the one step that it asks for, and writes one answer.
-use Rattle.std.specs.Prelude.{◌≡◌, ◌⊎◌, ℕ, ◌<◌, ℤ, List, [], ◌∷◌, length, take, Option, Result, Ok, Err}
-use Rattle.std.specs.Io.KnownBytes.{Appends, Consumes, IsAtEnd}
+use Rattle.std.specs.Prelude.{◌≡◌, ◌⊎◌, ℕ, ◌<◌, ◌≤◌, ◌^◌, ℤ, List, [], ◌∷◌, length, take, Option, None, Result, Ok}
+use Rattle.std.specs.Prelude.{Err}
+use Rattle.std.specs.Io.KnownBytes.{Appends, Consumes, IsAtEnd, Keeps}
 use Rattle.book.specs.declared.standing.Standing.{Ghosts}
 use Rattle.cms.specs.declared.signer.SignerFault.{SignerFault}
 use Rattle.tsp.specs.Rules.{IsFirstFailing}
@@ -16,9 +17,13 @@ use Rattle.desk.specs.Findings.{HoldsUnasked}
 use Rattle.desk.specs.MachineRuns.{Told}
 use Rattle.desk.specs.CallContract.{DeskValue, IsStep, no_signer, with_signer}
 use Rattle.audit.specs.Auditor.{IsAllowed}
+use Rattle.audit.specs.Extract.{extract_text}
 use Rattle.audit.specs.Failures.{HasFailed}
-use Rattle.service.specs.Answers.{AnswerValue, answer_text, answer_to, extract_answer, refusal_answer, success}
-use Rattle.service.specs.Answers.{unavailable}
+use Rattle.audit.specs.Fault.{count_after}
+use Rattle.audit.specs.declared.fault.ExtractFault.{ExtractFault}
+use Rattle.audit.specs.declared.fault.ExtractFault.TheVariants as extract
+use Rattle.service.specs.Answers.{AnswerValue, answer_text, answer_to, extract_answer, head_text, refusal_answer}
+use Rattle.service.specs.Answers.{success, unavailable}
 use Rattle.service.specs.Refusals.{status_of}
 use Rattle.service.specs.Reports.{Reports}
 use Rattle.service.specs.Requests.{Asked, Report, Step, Look, Extract, IsRequest, IsPart, IsEarly}
@@ -81,6 +86,43 @@ SendsOctets contents reading old new (served.WriteFailed told sent) =
 abbrev pub TellsFailure : (before after : Option ℕ) → Served → Type 0
 TellsFailure before after (served.WriteFailed status sent) = HasFailed before after
 TellsFailure before after other = after ≡ before
+
+-- The same of a list: while it was looked up nothing was written, but the writer may have been asked to send; it tells
+-- from then on.
+pub record TellsFailureOnceListed {W : Type 0} (contents : W → Option (List ℕ)) (failures : W → Option ℕ)
+    (old new : W) (outcome : Served) : Type 0 where
+  pub listed : W
+  pub unwritten : Keeps (contents old) (contents listed)
+  pub tells : TellsFailure (failures listed) (failures new) outcome
+
+module _ (reading : ℤ) (from to : ℕ) (b : History) (faults faults' : ℕ) where
+  -- An extract of that history is cut behind its head: memory was wanting for a row, or the store failed, which it
+  -- counts.
+  pub record IsCutBehindHead (sent : ℕ) : Type 0 where
+    pub headed : length (head_text reading 200 media.Csv None (length (extract_text from to b))) ≤ sent
+    pub fault : ExtractFault
+    pub of : (fault ≡ extract.Memory) ⊎ (fault ≡ extract.Store)
+    pub counted : faults' ≡ count_after fault faults
+
+  -- As far as the writer tells its failures: where the extract isn't told as written whole, a write failed, or what was
+  -- written couldn't be sent, or it is cut, or its answer has 2^64 octets or more; and else none failed.
+  abbrev pub TellsExtractFailure : (before after : Option ℕ) → Served → Type 0
+  TellsExtractFailure before after (served.WriteFailed status sent) =
+      HasFailed before after
+      ⊎ (IsCutBehindHead sent ⊎ (2 ^ 64 ≤ length (answer_text reading (extract_answer from to b))))
+  TellsExtractFailure before after other = after ≡ before
+
+module _ {W B : Type 0} (g : Ghosts B) (contents : W → Option (List ℕ)) (failures : W → Option ℕ) (reading : ℤ)
+    (w w' : W) (old new : DeskValue B) (outcome : Served) where
+  -- What is told of failures where that is asked for, which is looked up row by row: a list, or an extract that is
+  -- allowed, of each history that the store stands for.
+  abbrev pub TellsFailureByRows : Result Asked Refusal → Type 0
+  TellsFailureByRows (Ok (Step (ListAll account))) = TellsFailureOnceListed contents failures w w' outcome
+  TellsFailureByRows (Ok (Look (Extract account from to))) =
+      IsAllowed old.setting.file account from to × (g.honest new.store → (b : History) → Stands g b old.store
+      → TellsExtractFailure reading from to b (g.fault_count old.store) (g.fault_count new.store) (failures w)
+      (failures w') outcome)
+  TellsFailureByRows other = ⊥
 
 -- the desk's reply to a calibration that is before the latest
 abbrev pub turned_back : Answer

@@ -9,8 +9,8 @@ ghost use Rattle.desk.specs.Together.{question_view};
 ghost use Rattle.service.specs.Answers.{answer_to};
 ghost use Rattle.service.specs.Known.{IsDue, IsDueAtEnd, IsDueInPlace};
 ghost use Rattle.service.specs.Received.{ReceivedValue, IsAll};
-ghost use Rattle.service.specs.Served.{Sends, Serves, TellsCut, TellsFailure};
-ghost use Rattle.service.specs.Stamps.{AsksRows, AsksStamp, ReadsRows};
+ghost use Rattle.service.specs.Served.{Sends, Serves, TellsCut, TellsFailure, TellsFailureByRows};
+ghost use Rattle.service.specs.Stamps.{AsksStamp, AsksWhere, ReadsWhere};
 ghost use Rattle.service.specs.Views.{stamp_answer};
 
 use crate::answer::Occasion;
@@ -65,8 +65,9 @@ fn give<W: Output, B: Book + Drop, G: Signer>(
         }) steps result) }
     ensures cut { IsDueAtEnd due.entry → TellsCut result }
     ensures failed { TellsFailure (W.failures writer.old) (W.failures writer.new) result
-        ⊎ ((r : ReceivedValue) → IsDue r due.entry
-        → AsksRows desk.old.setting.file environment.entry.reading r) }
+        ⊎ ((r : ReceivedValue) → IsDue r due.entry → AsksWhere desk.old.setting.file environment.entry.reading
+        (TellsFailureByRows B.Standing W.contents W.failures environment.entry.reading writer.old writer.new desk.old
+        desk.new result) r) }
 {
     let at = Occasion {
         reading: environment.reading,
@@ -116,9 +117,9 @@ impl Request {
         ensures all { result.is_all ≡ true → IsAll self.now.octets }
         ensures cut { self.now.is_wanting ≡ true → self.now.is_ended ≡ true → TellsCut result.served }
 
-        // A list and an extract may be given up where no write failed.
         ensures failed { TellsFailure (W.failures writer.old) (W.failures writer.new) result.served
-            ⊎ AsksRows desk.old.setting.file environment.entry.reading self.now }
+            ⊎ AsksWhere desk.old.setting.file environment.entry.reading (TellsFailureByRows B.Standing W.contents
+            W.failures environment.entry.reading writer.old writer.new desk.old desk.new result.served) self.now }
     {
         Exchanged {
             served: give(environment, self.due(), desk, signer, writer),
@@ -174,17 +175,20 @@ pub fn serve_over<R: Read, W: Output, B: Book + Drop, G: Signer>(
     ensures setting { desk.new.setting ≡ desk.old.setting }
     ensures honest { B.honest desk.new.store → B.honest desk.old.store }
     ensures failed { TellsFailure (W.failures writer.old) (W.failures writer.new) result
-        ⊎ ReadsRows desk.old.setting.file surroundings.reading (R.remaining reader.old) (R.remaining reader.new) }
-    ensures served { (steps : List Told) × Serves B.Standing G.signs G.fault_count W.contents surroundings.reading (record {
-      input = R.remaining reader.old;
-      input_after = R.remaining reader.new;
-      writer = writer.old;
-      writer_after = writer.new;
-      desk = desk.old;
-      desk_after = desk.new;
-      signer = signer.old;
-      signer_after = signer.new;
-    }) steps result }
+        ⊎ ReadsWhere desk.old.setting.file surroundings.reading (TellsFailureByRows B.Standing W.contents W.failures
+        surroundings.reading writer.old writer.new desk.old desk.new result) (R.remaining reader.old)
+        (R.remaining reader.new) }
+    ensures served { (steps : List Told) × Serves B.Standing G.signs G.fault_count W.contents surroundings.reading
+        (record {
+          input = R.remaining reader.old;
+          input_after = R.remaining reader.new;
+          writer = writer.old;
+          writer_after = writer.new;
+          desk = desk.old;
+          desk_after = desk.new;
+          signer = signer.old;
+          signer_after = signer.new;
+        }) steps result }
 {
     let alloc = surroundings.alloc;
     let Ok(routes) = Routes::new(alloc) else {
@@ -222,7 +226,8 @@ pub fn serve_one<R: Read, W: Output, B: Book + Drop, G: Signer>(
     ensures setting { desk.new.setting ≡ desk.old.setting }
     ensures honest { B.honest desk.new.store → B.honest desk.old.store }
     ensures failed { TellsFailure (W.failures writer.old) (W.failures writer.new) result
-        ⊎ ReadsRows desk.old.setting.file reading (R.remaining reader.old) (R.remaining reader.new) }
+        ⊎ ReadsWhere desk.old.setting.file reading (TellsFailureByRows B.Standing W.contents W.failures reading
+        writer.old writer.new desk.old desk.new result) (R.remaining reader.old) (R.remaining reader.new) }
     ensures served { (steps : List Told) × Serves B.Standing G.signs G.fault_count W.contents reading (record {
       input = R.remaining reader.old;
       input_after = R.remaining reader.new;

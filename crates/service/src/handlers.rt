@@ -2,8 +2,8 @@
 //! answer is written.
 ghost use Rattle.std.specs.Prelude.{◌≡◌, ◌⊎◌, Ok};
 ghost use Rattle.service.specs.Handlers.{Handles};
-ghost use Rattle.service.specs.Requests.{IsByRows, asked_by};
-ghost use Rattle.service.specs.Served.{TellsFailure};
+ghost use Rattle.service.specs.Requests.{asked_by};
+ghost use Rattle.service.specs.Served.{TellsFailure, TellsFailureByRows};
 ghost use Rattle.service.specs.Views.{asked_view, head_view, request_view, IsInPlace};
 
 mod deposit;
@@ -37,7 +37,8 @@ pub(crate) fn handle<W: Output, B: Book + Drop, G: Signer>(
         (asked_by desk.old.setting.file context.now.at.reading (head_view context.now.head) context.now.body.now action)
         writer.old writer.new desk.old desk.new signer.old signer.new result }
     ensures failed { TellsFailure (W.failures writer.old) (W.failures writer.new) result
-        ⊎ IsByRows (asked_by desk.old.setting.file context.now.at.reading (head_view context.now.head)
+        ⊎ TellsFailureByRows B.Standing W.contents W.failures context.now.at.reading writer.old writer.new desk.old
+        desk.new result (asked_by desk.old.setting.file context.now.at.reading (head_view context.now.head)
         context.now.body.now action) }
 {
     match found_by(action, desk.policy(), context) {
@@ -60,7 +61,8 @@ fn answer<W: Output, B: Book + Drop, G: Signer>(
         (Ok (asked_view (request_view context.now) found.entry)) writer.old writer.new desk.old desk.new signer.old
         signer.new result }
     ensures failed { TellsFailure (W.failures writer.old) (W.failures writer.new) result
-        ⊎ IsByRows (Ok (asked_view (request_view context.now) found.entry)) }
+        ⊎ TellsFailureByRows B.Standing W.contents W.failures context.now.at.reading writer.old writer.new desk.old
+        desk.new result (Ok (asked_view (request_view context.now) found.entry)) }
 {
     match found {
         Found::Stamp(asked) => {

@@ -4,6 +4,7 @@ ghost use Rattle.desk.specs.Command.{ListAll};
 ghost use Rattle.policy.specs.View.{account_view};
 ghost use Rattle.service.specs.Handlers.{Handles};
 ghost use Rattle.service.specs.Requests.{Step};
+ghost use Rattle.service.specs.Served.{TellsFailureOnceListed};
 
 use crate::answer::Media;
 use crate::context::Context;
@@ -11,14 +12,14 @@ use crate::lists::listed_lines;
 use crate::refusal::Refusal;
 use crate::responses::{out_of_memory, refuse, succeed};
 use crate::served::Served;
+use audit::Output;
 use book::Book;
 use cms::Signer;
 use desk::Desk;
 use policy::Account;
-use std::io::Write;
 
 /// Lists an account's deposits, as long as the writer has time. Their lines take memory.
-pub(crate) fn list<W: Write, B: Book + Drop, G: Signer>(
+pub(crate) fn list<W: Output, B: Book + Drop, G: Signer>(
     context: &Context<'_>,
     desk: &mut Desk<'_, B>,
     _signer: &mut G,
@@ -30,6 +31,7 @@ pub(crate) fn list<W: Write, B: Book + Drop, G: Signer>(
     ensures served { Handles B.Standing G.signs G.fault_count W.contents context.now.at.reading
         (Ok (Step (ListAll (account_view account.now)))) writer.old writer.new desk.old desk.new _signer.old _signer.new
         result }
+    ensures failed { TellsFailureOnceListed W.contents W.failures writer.old writer.new result }
 {
     let rows = match desk.list_within(account, writer) {
         Ok(rows) => rows,

@@ -2,8 +2,8 @@ use Rattle.std.proofs.Common.{ℤ, [], SFits, inl, inr, refl, rules, subst, to_z
 use Rattle.service.specs.Answers.{refusal_answer}
 use Rattle.service.specs.Handlers.{Handles}
 use Rattle.service.specs.Known.{IsDue}
-use Rattle.service.specs.Requests.{IsByRows, asked_by}
-use Rattle.service.specs.Served.{Sends}
+use Rattle.service.specs.Requests.{asked_by}
+use Rattle.service.specs.Served.{Sends, TellsFailureByRows}
 use Rattle.service.specs.Views.{head_view}
 use Rattle.service.specs.declared.due.Due.{Due}
 use Rattle.service.proofs.ServingLemmas.{answerable, closing, refusing_due, turn}
@@ -61,7 +61,9 @@ returns-in-Answer-clause-failed g c =
     let start = c.in-Answer.head in
     let body = c.in-Answer.body.now in
     let fits : SFits w64 reading = search rules in
-    let P : ℤ → Type 0 = λ at. IsByRows (asked_by file at (head_view start) body action) in
+    let P : ℤ → Type 0 = λ at. TellsFailureByRows g.B.Standing g.W.Write.contents g.W.Output.failures at
+    c.args.writer.now c.handle.new.writer c.args.desk.now c.handle.new.desk c.handle.result
+    (asked_by file at (head_view start) body action) in
     elim c.handle.ensures.failed [
       | inl tells ↦ inl tells
       | inr rows ↦

@@ -1,7 +1,7 @@
 use Rattle.std.proofs.Common.{ℤ, List, SFits, inl, inr, rules, subst, to_z-of_z, w64}
 use Rattle.desk.specs.MachineRuns.{Told}
-use Rattle.service.specs.Served.{Serves}
-use Rattle.service.specs.Stamps.{ReadsRows}
+use Rattle.service.specs.Served.{Serves, TellsFailureByRows}
+use Rattle.service.specs.Stamps.{ReadsWhere}
 use Rattle.service.proofs.ServingLemmas.{turn}
 use Rattle.service.proofs.exchange.serve_one.Goals as goal
 
@@ -18,8 +18,10 @@ returns-clause-served g c =
 pub returns-clause-failed : goal.returns-clause-failed
 returns-clause-failed g c =
     let fits : SFits w64 c.args.reading = search rules in
-    let P : ℤ → Type 0 = λ at. ReadsRows c.args.desk.now.setting.file at (g.R.Read.remaining c.args.reader.now)
-    (g.R.Read.remaining c.serve_over.new.reader) in
+    let P : ℤ → Type 0 = λ at. ReadsWhere c.args.desk.now.setting.file at
+    (TellsFailureByRows g.B.Standing g.W.Write.contents g.W.Output.failures at c.args.writer.now
+    c.serve_over.new.writer c.args.desk.now c.serve_over.new.desk c.serve_over.result)
+    (g.R.Read.remaining c.args.reader.now) (g.R.Read.remaining c.serve_over.new.reader) in
     elim c.serve_over.ensures.failed [
       | inl tells ↦ inl tells
       | inr rows ↦ inr (subst P (to_z-of_z fits) rows)

@@ -1,4 +1,5 @@
-use Rattle.std.proofs.Common.{◌≡◌, ◌∙◌, ℤ, List, [], ℕ, ap, arith, inl, inr, length, refl, rules, subst, sym, take, true, false}
+use Rattle.std.proofs.Common.{◌≡◌, ◌∙◌, ℤ, List, [], ℕ, ap, arith, inl, inr, length, refl, rules, subst, sym, take, true}
+use Rattle.std.proofs.Common.{false}
 use Rattle.std.proofs.Common.{SFits, w64, to_z-of_z}
 use Rattle.std.proofs.KnownBytes.{Consumes-nil, Consumes-trans}
 use Rattle.std.proofs.lemmas.List.{append-nil, take_all}
@@ -6,8 +7,8 @@ use Rattle.std.specs.Io.KnownBytes.{Consumes}
 use Rattle.service.specs.Received.{is_open}
 use Rattle.service.specs.Requests.{nothing}
 use Rattle.service.specs.Answers.{unavailable}
-use Rattle.service.specs.Served.{Sends, Serves}
-use Rattle.service.specs.Stamps.{ReadsRows}
+use Rattle.service.specs.Served.{Sends, Serves, TellsFailureByRows}
+use Rattle.service.specs.Stamps.{ReadsWhere}
 use Rattle.service.proofs.RequestLemmas.{open_parts}
 use Rattle.service.proofs.ServingLemmas.{failing, turn, wanting_early}
 use Rattle.service.proofs.exchange.serve_over.Goals as goal
@@ -88,7 +89,9 @@ returns-clause-failed g c =
     ap (λ n. take n r.octets) (c.reading.invariant.exact closed) ∙ take_all (length r.octets) r.octets (omega arith) in
     let C : List ℕ → Type 0 = λ l. Consumes before after l in
     let fits : SFits w64 c.args.surroundings.reading = search rules in
-    let P : ℤ → Type 0 = λ at. ReadsRows c.args.desk.now.setting.file at before after in
+    let P : ℤ → Type 0 = λ at. ReadsWhere c.args.desk.now.setting.file at
+    (TellsFailureByRows g.B.Standing g.W.Write.contents g.W.Output.failures at c.args.writer.now c.serve.new.writer
+    c.args.desk.now c.serve.new.desk c.serve.result.served) before after in
     elim c.serve.ensures.failed [
       | inl tells ↦ inl tells
       | inr rows ↦ inr (subst P (to_z-of_z fits) (rows before after (subst C (sym all) c.reading.invariant.consumed)))

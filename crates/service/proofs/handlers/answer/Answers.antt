@@ -1,4 +1,5 @@
-use Rattle.std.proofs.Common.{ℤ, ℕ, refl, rules, subst, SFits, to_z-of_z, w64}
+use Rattle.std.proofs.Common.{ℤ, ℕ, inl, inr, refl, rules, subst, SFits, to_z-of_z, w64}
+use Rattle.audit.specs.Auditor.{IsAllowed}
 use Rattle.policy.specs.Record.{PolicyValue}
 use Rattle.policy.specs.View.{account_view}
 use Rattle.book.specs.Values.{calibration_view, hold_view}
@@ -57,6 +58,9 @@ returns-in-Keep-clause-served g c =
 pub returns-in-List-clause-served : goal.returns-in-List-clause-served
 returns-in-List-clause-served g c = rw c.in-List.is c.list.ensures.served
 
+pub returns-in-List-clause-failed : goal.returns-in-List-clause-failed
+returns-in-List-clause-failed g c = rw c.in-List.is (inr c.list.ensures.failed)
+
 pub returns-in-Deposit-clause-served : goal.returns-in-Deposit-clause-served
 returns-in-Deposit-clause-served g c = rw c.in-Deposit.is c.answer.ensures.served
 
@@ -72,6 +76,15 @@ returns-in-Extract-clause-served g c =
     c.serve_extract.new.desk c.args.signer.now c.args.signer.now c.serve_extract.result
     (account_view c.in-Extract.account.now) c.in-Extract.from c.in-Extract.to c.serve_extract.ensures.looks refl
     (subst P c.policy-policy.ensures c.serve_extract.ensures.served))
+
+pub returns-in-Extract-clause-failed : goal.returns-in-Extract-clause-failed
+returns-in-Extract-clause-failed g c =
+    let P : PolicyValue → Type 0 =
+    λ f. IsAllowed f (account_view c.in-Extract.account.now) c.in-Extract.from c.in-Extract.to in
+    rw c.in-Extract.is (elim c.serve_extract.ensures.failed [
+      | inl tells ↦ inl tells
+      | inr told ↦ inr (subst P c.policy-policy.ensures told.0, told.1)
+    ])
 
 pub returns-in-Calibrate-clause-served : goal.returns-in-Calibrate-clause-served
 returns-in-Calibrate-clause-served g c =
