@@ -4,6 +4,7 @@ use Rattle.std.specs.Io.KnownBytes.{Appends}
 use Rattle.clap.specs.Words.{Text}
 use Rattle.command_line.specs.Words.{Asks}
 use Rattle.command_line.specs.declared.words.AuditWords.{AuditWords}
+use Rattle.command_line.specs.declared.words.ContinueWords.{ContinueWords}
 use Rattle.command_line.specs.declared.words.Word.{Word}
 use Rattle.command_line.specs.declared.words.Word.TheVariants.{Tst, Check, Init, Migrate, Continue, Calibrate, Hold}
 use Rattle.command_line.specs.declared.words.Word.TheVariants.{Answer, Exchange, Serve, Audit, Explain}
@@ -17,7 +18,6 @@ use Rattle.console.specs.declared.fault.InputFault.TheVariants.{Failed}
 use Rattle.console.proofs.Writes.{begins_after}
 use Rattle.operations.specs.Audits.{TellsSome, failing_lines}
 use Rattle.operations.specs.Machine.{Machine}
-use Rattle.operations.specs.declared.void_stamp.Floor.{Floor}
 use Rattle.counter.specs.Does.{Does, IsNoAudit}
 use Rattle.counter.specs.Extract.{IsExamining, Extracts, LeavesAudit}
 use Rattle.counter.specs.Extract as left
@@ -52,7 +52,7 @@ failing_or_not Served = inr (λ e. cc e)
 failing_or_not Extracted = inr (λ e. cc e)
 failing_or_not Explained = inr (λ e. cc e)
 
-module _ {D X C S F O : Type 0} (m : Machine D X C Reading) (IsContinued : Option Floor → Type 0) (files : Source S F)
+module _ {D X C S F O : Type 0} (m : Machine D X C Reading) (IsContinued : ContinueWords → Type 0) (files : Source S F)
     (texts : List Text) (input input' : Option (List ℕ)) (contents : O → Option (List ℕ)) (out out' : O)
     (old : Option (List ℕ)) where
   -- another word doesn't speak of standard error

@@ -6,7 +6,6 @@ use Rattle.console.specs.Files.{Source}
 use Rattle.console.specs.Tst.{Answers}
 use Rattle.counter.specs.Calibration.{Calibrates}
 use Rattle.counter.specs.Connections.{ServesConnections}
-use Rattle.counter.specs.Continuation.{floor_of}
 use Rattle.counter.specs.Exchange.{Exchanges}
 use Rattle.counter.specs.Explanation.{Explains}
 use Rattle.counter.specs.Extract.{Extracts}
@@ -15,8 +14,8 @@ use Rattle.counter.specs.Reply.{Replies}
 use Rattle.counter.specs.Streams.{Extent, Streams, Writes}
 use Rattle.operations.specs.Machine.{Machine}
 use Rattle.operations.specs.OverFiles.{IsMadeOver, MigratesFound}
-use Rattle.operations.specs.declared.void_stamp.Floor.{Floor}
 use Rattle.command_line.specs.declared.words.AuditWords.{AuditWords}
+use Rattle.command_line.specs.declared.words.ContinueWords.{ContinueWords}
 use Rattle.command_line.specs.declared.words.Word.{Word}
 use Rattle.command_line.specs.declared.words.Word.TheVariants.{Tst, Check, Init, Migrate, Continue, Calibrate, Hold}
 use Rattle.command_line.specs.declared.words.Word.TheVariants.{Answer, Exchange, Serve, Audit, Explain}
@@ -24,8 +23,8 @@ use Rattle.command_line.specs.declared.words.Word.TheVariants.{Answer, Exchange,
 -- Each word has a definition of what it does, and of what is written to the output, to that extent. But for `tst`,
 -- `answer` and `exchange` the input isn't read, and where no text is said nothing is written. The files that the words
 -- name are `files`. The database is what the machine holds: no definition says at which path; what is said of a history
--- that goes on above a floor is `IsContinued`.
-abbrev pub Does : {D X C S F O : Type 0} → Machine D X C Reading → (Option Floor → Type 0) → Source S F → Streams O
+-- that goes on is `IsContinued`.
+abbrev pub Does : {D X C S F O : Type 0} → Machine D X C Reading → (ContinueWords → Type 0) → Source S F → Streams O
     → Word → Extent → Type 0
 Does m IsContinued files s (Tst words) extent =
     IfSome s.input (λ text. (written : List ℕ) × Answers words text written × Writes s extent written)
@@ -35,7 +34,7 @@ Does m IsContinued files s (Init words) extent = (s.input_after ≡ s.input) × 
 Does m IsContinued files s (Migrate words) extent =
     (s.input_after ≡ s.input) × MigratesFound m.disk m.held × Writes s extent []
 Does m IsContinued files s (Continue words) extent =
-    (s.input_after ≡ s.input) × IsContinued (floor_of words) × Writes s extent []
+    (s.input_after ≡ s.input) × IsContinued words × Writes s extent []
 Does m IsContinued files s (Calibrate words) extent =
     (s.input_after ≡ s.input) × Calibrates m words × Writes s extent []
 Does m IsContinued files s (Hold words) extent = (s.input_after ≡ s.input) × Holds m words × Writes s extent []

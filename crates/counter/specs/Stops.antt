@@ -6,6 +6,7 @@ use Rattle.audit.specs.Auditor.{IsMet}
 use Rattle.audit.specs.declared.fault.ExtractFault.{ExtractFault}
 use Rattle.command_line.specs.Words.{Asks, AsksHelp}
 use Rattle.command_line.specs.declared.words.AuditWords.{AuditWords}
+use Rattle.command_line.specs.declared.words.ContinueWords.{ContinueWords}
 use Rattle.command_line.specs.declared.words.Word.{Word}
 use Rattle.command_line.specs.declared.words.Word.TheVariants.{Audit}
 use Rattle.connections.specs.Clock.{Reading}
@@ -20,10 +21,9 @@ use Rattle.counter.specs.Extract.{IsExamining, CutsExtract, Extracts, StopsCheck
 use Rattle.counter.specs.Streams.{Streams, begun, whole}
 use Rattle.operations.specs.Audits.{Failure, TellsSome, failing_lines}
 use Rattle.operations.specs.Machine.{Machine}
-use Rattle.operations.specs.declared.void_stamp.Floor.{Floor}
 
 -- A fault stopped it, whose line is told on standard error, or a beginning of that line; or stamps fail their check.
-pub data Stops {D X C S F O : Type 0} (m : Machine D X C Reading) (IsContinued : Option Floor → Type 0)
+pub data Stops {D X C S F O : Type 0} (m : Machine D X C Reading) (IsContinued : ContinueWords → Type 0)
     (files : Source S F) (texts : List Text) (s : Streams O) : Type 0 where
   -- nothing is written to the output, and a fault is told, of whose cause, and of what was done before it, nothing is
   -- said
@@ -53,7 +53,7 @@ pub data Stops {D X C S F O : Type 0} (m : Machine D X C Reading) (IsContinued :
       → TellsSome s.errors s.errors_after → Stops m IsContinued files texts s
 
 -- By its exit status: all is done, what the words ask for is written, or they ask for help; or it was stopped.
-pub record Exits {D X C S F O : Type 0} (m : Machine D X C Reading) (IsContinued : Option Floor → Type 0)
+pub record Exits {D X C S F O : Type 0} (m : Machine D X C Reading) (IsContinued : ContinueWords → Type 0)
     (files : Source S F) (s : Streams O) (texts : List Text) (status : ℕ) : Type 0 where
   pub done : status ≡ 0 → ((word : Word) × Asks texts word × Does m IsContinued files s word whole) ⊎ AsksHelp texts
   pub stopped : status ≡ 1 → Stops m IsContinued files texts s

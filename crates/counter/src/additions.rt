@@ -17,7 +17,7 @@ use std::alloc::Global;
 /// Adds the calibration that the words state.
 pub fn calibrate<F: Start + Drop>(
     alloc: Global,
-    database: Database<'_, HostFiles<'_, F>>,
+    database: Database<'_, HostFiles<'_, F, HostRuntime>>,
     words: &CalibrateWords<'_>,
 ) -> Result<(), Fault>
     ensures added { IfOk result (λ _. Calibrates (machine_of ⟦<FileFrom<F> as Disk>⟧ F.Start
@@ -33,7 +33,7 @@ pub fn calibrate<F: Start + Drop>(
 /// looked at.
 pub fn hold<F: Start + Drop>(
     alloc: Global,
-    database: Database<'_, HostFiles<'_, F>>,
+    database: Database<'_, HostFiles<'_, F, HostRuntime>>,
     words: &HoldWords<'_>,
 ) -> Result<(), Fault>
     ensures added { IfOk result (λ _. Holds (machine_of ⟦<FileFrom<F> as Disk>⟧ F.Start

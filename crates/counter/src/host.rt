@@ -8,7 +8,7 @@ use operations::{Database, HostFiles, Start, Unknown};
 pub struct Host<'a, F, S> {
     /// Its system.
     pub rt: &'a HostRuntime,
-    /// What opens the files that the arguments name, but for the database's.
+    /// What opens the files that the arguments name, but for the database's, and sees what stands at a new one's path.
     pub files: &'a S,
     /// What is supposed of the files of the database that the arguments name.
     pub start: F,
@@ -16,21 +16,26 @@ pub struct Host<'a, F, S> {
 
 impl<'a, F: Start + Drop, S> Host<'a, F, S> {
     /// Another database at a path of it, of whose files nothing is supposed.
-    pub fn another(&self, path: &'a str) -> Database<'a, HostFiles<'a, Unknown>>
-        ensures { result.path.now ≡ path.now }
+    pub fn another(&self, path: &'a str) -> Database<'a, HostFiles<'a, Unknown, S>>
+        ensures path { result.path.now ≡ path.now }
+        ensures paths { result.files.paths.now ≡ self.now.files.now }
     {
-        let files = HostFiles::new(self.rt, Unknown);
+        let files = HostFiles {
+            paths: self.files,
+            start: Unknown,
+        };
         Database { path, files }
     }
 
     /// The database at a path of it.
-    pub fn database(self, path: &'a str) -> Database<'a, HostFiles<'a, F>>
+    pub fn database(self, path: &'a str) -> Database<'a, HostFiles<'a, F, HostRuntime>>
         ensures path { result.path.now ≡ path.now }
         ensures start { result.files.start ≡ self.entry.start }
     {
-        Database {
-            path,
-            files: HostFiles::new(self.rt, self.start),
-        }
+        let files = HostFiles {
+            paths: self.rt,
+            start: self.start,
+        };
+        Database { path, files }
     }
 }

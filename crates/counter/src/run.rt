@@ -4,6 +4,7 @@ ghost use Rattle.command_line.specs.Words.{AreRefused, AreTaken, texts_of};
 ghost use Rattle.console.specs.Fault.{fault_line, no_text};
 ghost use Rattle.console.specs.Files.{source_of};
 ghost use Rattle.console.specs.Writes.{Begins};
+ghost use Rattle.counter.specs.Continuation.{IsContinuedBy};
 ghost use Rattle.counter.specs.Does.{Does, IsNoAudit};
 ghost use Rattle.counter.specs.Extract.{IsExamining, Extracts, LeavesAudit};
 ghost use Rattle.counter.specs.Reply.{Replies};
@@ -11,7 +12,7 @@ ghost use Rattle.counter.specs.Stops.{Exits};
 ghost use Rattle.counter.specs.Streams.{begun, streams_of, whole};
 ghost use Rattle.operations.specs.Audits.{TellsSome};
 ghost use Rattle.operations.specs.Machine.{image_at, machine_of};
-ghost use Rattle.operations.specs.OverFiles.{IsContinuedOver};
+ghost use Rattle.operations.specs.OverFiles.{IsContinuedOver, IsFreeAt};
 
 use crate::additions::{calibrate, hold};
 use crate::answer::{answer, octets_of};
@@ -28,7 +29,7 @@ use console::{
     DONE, FAULT, Fault, FileSource, InputFault, answer_tst, check_policy, explain, refuse_octets,
     report, write_hexadecimal,
 };
-use operations::{Disk, FileFrom, HostSigner, Start, Unknown};
+use operations::{Disk, FileFrom, HostSigner, Paths, Start, Unknown};
 use std::env;
 use std::io::{ErrorKind, Read, Stderr, Stdin, Stdout, Write};
 use std::rt::HostRuntime;
@@ -148,7 +149,7 @@ fn take_words<I, O: Write, E: Write>(
 /// Where the status isn't 0 nothing is written to `output`, but where writing an answer or help fails, or an extract is
 /// refused on the way: then a beginning of it stands there; and where a check fails or is stopped: then the whole
 /// extract.
-pub fn run_words<F: Start + Drop, S: FileSource + AllocGlobal, I: Read, O: Write, E: Write>(
+pub fn run_words<F: Start + Drop, S: FileSource + Paths + AllocGlobal, I: Read, O: Write, E: Write>(
     host: Host<'_, F, S>,
     words: &[String],
     process: &mut Process<I, O, E>,
@@ -159,7 +160,8 @@ pub fn run_words<F: Start + Drop, S: FileSource + AllocGlobal, I: Read, O: Write
     // stamps fail their check: what is told, and what is written to the output (`stopped`).
     ensures exits { Exits (machine_of ⟦<FileFrom<F> as Disk>⟧ F.Start
         ⟦<HostSigner<'static> as Signer>⟧ ⟦<SystemClock<'static, HostRuntime> as Clock>⟧.reads)
-        (IsContinuedOver ⟦<FileFrom<F> as Disk>⟧ (image_at F.Start) ⟦<FileFrom<Unknown> as Disk>⟧)
+        (IsContinuedBy (IsContinuedOver ⟦<FileFrom<F> as Disk>⟧ (image_at F.Start) ⟦<FileFrom<Unknown> as Disk>⟧)
+        (IsFreeAt ⟦<FileFrom<Unknown> as Disk>⟧ (image_at ⟦<Unknown as Start>⟧) S.Paths host.entry.files.now))
         (source_of S.opens S.refuses S.File.remaining host.entry.files.now)
         (streams_of (I.remaining process.old.input) (I.remaining process.new.input) O.contents process.old.output
         process.new.output (E.contents process.old.errors) (E.contents process.new.errors)) (texts_of words.now)
@@ -191,7 +193,7 @@ pub fn run_words<F: Start + Drop, S: FileSource + AllocGlobal, I: Read, O: Write
 }
 
 /// Does what a word asks for.
-fn run_word<F: Start + Drop, S: FileSource + AllocGlobal, I: Read, O: Write, E: Write>(
+fn run_word<F: Start + Drop, S: FileSource + Paths + AllocGlobal, I: Read, O: Write, E: Write>(
     host: Host<'_, F, S>,
     word: &Word<'_>,
     input: &mut I,
@@ -201,7 +203,8 @@ fn run_word<F: Start + Drop, S: FileSource + AllocGlobal, I: Read, O: Write, E: 
     ensures done { IfOk result (λ outcome. outcome ≢ Outcome.Failing
         → Does (machine_of ⟦<FileFrom<F> as Disk>⟧ F.Start
         ⟦<HostSigner<'static> as Signer>⟧ ⟦<SystemClock<'static, HostRuntime> as Clock>⟧.reads)
-        (IsContinuedOver ⟦<FileFrom<F> as Disk>⟧ (image_at F.Start) ⟦<FileFrom<Unknown> as Disk>⟧)
+        (IsContinuedBy (IsContinuedOver ⟦<FileFrom<F> as Disk>⟧ (image_at F.Start) ⟦<FileFrom<Unknown> as Disk>⟧)
+        (IsFreeAt ⟦<FileFrom<Unknown> as Disk>⟧ (image_at ⟦<Unknown as Start>⟧) S.Paths host.entry.files.now))
         (source_of S.opens S.refuses S.File.remaining host.entry.files.now)
         (streams_of (I.remaining input.old) (I.remaining input.new) O.contents output.old output.new
         (E.contents errors.old) (E.contents errors.new)) word.now whole) }
@@ -223,7 +226,8 @@ fn run_word<F: Start + Drop, S: FileSource + AllocGlobal, I: Read, O: Write, E: 
         ⊎ ((fault ≡ Fault.Input InputFault.Failed)
         × Does (machine_of ⟦<FileFrom<F> as Disk>⟧ F.Start
         ⟦<HostSigner<'static> as Signer>⟧ ⟦<SystemClock<'static, HostRuntime> as Clock>⟧.reads)
-        (IsContinuedOver ⟦<FileFrom<F> as Disk>⟧ (image_at F.Start) ⟦<FileFrom<Unknown> as Disk>⟧)
+        (IsContinuedBy (IsContinuedOver ⟦<FileFrom<F> as Disk>⟧ (image_at F.Start) ⟦<FileFrom<Unknown> as Disk>⟧)
+        (IsFreeAt ⟦<FileFrom<Unknown> as Disk>⟧ (image_at ⟦<Unknown as Start>⟧) S.Paths host.entry.files.now))
         (source_of S.opens S.refuses S.File.remaining host.entry.files.now)
         (streams_of (I.remaining input.old) (I.remaining input.new) O.contents output.old output.new
         (E.contents errors.old) (E.contents errors.new)) word.now begun)) }

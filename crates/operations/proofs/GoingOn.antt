@@ -2,7 +2,7 @@
 use Rattle.std.proofs.Common.{◌≡◌, ℕ, ◌<◌, ◌≤◌, ◌==◌, ◌&&◌, max, Bool, true, false, not, nat_le, List, []}
 use Rattle.std.proofs.Common.{◌∷◌, ◌++◌, map, reverse, Option, None, Some, option_map, option_to_list, refl, sym, ap, ap₂}
 use Rattle.std.proofs.Common.{◌∙◌, subst, inl, inr, arith, Result, Ok, Err, IfOk, IfErr, append_assoc, if◌then◌else◌, find, length, take, get_or, ◌+◌}
-use Rattle.std.specs.Prelude.{OnErr, OnOk}
+use Rattle.std.specs.Prelude.{IsOk, OnErr, OnOk}
 use Rattle.std.specs.List.{filter, list_any}
 use Rattle.std.proofs.Math.Nat.{le-max_left, le-max_right, max-eq_left}
 use Rattle.std.proofs.lemmas.Bool.{le-leb, le-ltb, lt-leb, lt-ltb, eq-eqb}
@@ -414,6 +414,11 @@ stated_from (Some floor) None (Some void) b states whole is asked = absurd asked
 stated_from (Some floor) (Some s) (Some void) b states whole is asked =
     let found = last_of_stamp b s (sym is) in
     states void b found.0 whole found.1 (subst (IsRestated void) found.2 asked.restated)
+
+-- what holds where there is room
+pub where_ok : {Is : Type 0} (room : Result (Unit {0}) StoreFault) → IsOk room → OnOk room Is → Is
+where_ok (Ok t) room is = is
+where_ok (Err fault) room is = absurd (let apart = room in cc)
 
 -- ---- both books
 

@@ -1,7 +1,7 @@
 -- How a history goes on in a new book: what is carried on from the old one, with which entries the new one begins, and
 -- how the old one is closed for tokens.
 use Rattle.std.specs.Prelude.{◌≡◌, ◌⊎◌, ℕ, ◌<◌, ◌≤◌, not, nat_lt, List, [], ◌∷◌, ◌++◌, map, filter, reverse}
-use Rattle.std.specs.Prelude.{Option, None, Some, option_map, if◌then◌else◌, Result, Ok, Err, OnOk, OnErr}
+use Rattle.std.specs.Prelude.{Option, None, Some, option_map, if◌then◌else◌, Result, Ok, Err, MatchResult, OnOk, OnErr}
 use Rattle.std.specs.List.{Contains}
 use Rattle.book.specs.Continuation.{Floor as Void, IsAbove, IsAboveIfAny, closed, continued, entry_if, holds_all}
 use Rattle.book.specs.Continuation.{last_reservation}
@@ -133,6 +133,10 @@ HasBegun (Unopened fault) = ⊥
 HasBegun (Unclosed fault) = ⊥
 HasBegun NotAfter = ⊥
 HasBegun (Unfinished fault) = Unit {0}
+
+-- the closing is begun only where this is so
+abbrev pub BeginsOnlyIf : {A : Type 0} → Type 0 → Result A ContinuationFault → Type 0
+BeginsOnlyIf Is done = MatchResult done (λ _. Is) (λ fault. HasBegun fault → Is)
 
 module _ {X : Type 0} (g : Ghosts X) (floor : Option Floor) (old new : X) where
   -- a book that was opened isn't closed, by the refusal

@@ -16,7 +16,7 @@ use Rattle.book.specs.History.{Entry, History}
 use Rattle.book.specs.Stands.{Stands}
 use Rattle.tables.specs.Base.{BaseValue, IsHonest, IsOpen}
 use Rattle.store.specs.Files.{HasClosed, HoldsTables, LeavesFiles, OpensFound}
-pub use Rattle.store.specs.Files.{MigratesFound}
+pub use Rattle.store.specs.Files.{IsFreeAt, MigratesFound}
 use Rattle.store.specs.Stands.{Stands as StandsOver, over_tables}
 use Rattle.desk.specs.Command.{Setting}
 use Rattle.desk.specs.MachineRuns.{Journey, Told}

@@ -1,5 +1,5 @@
 //! How the history of a database goes on in a new one.
-ghost use Rattle.std.specs.Prelude.{◌≡◌, ◌⊎◌, reverse, map, option_map, Err, IfOk, IfErr, IsOk, MatchResult, OnOk};
+ghost use Rattle.std.specs.Prelude.{◌≡◌, ◌⊎◌, reverse, map, option_map, Err, IfOk, IfErr, IsOk, OnOk};
 ghost use Rattle.std.specs.Prelude.{Ok};
 ghost use Rattle.std.specs.List.{list_any};
 ghost use Rattle.book.specs.Continuation.{closed, holds_all};
@@ -7,7 +7,7 @@ ghost use Rattle.book.specs.Fault.{IsOfStorage};
 ghost use Rattle.book.specs.History.{History, holds};
 ghost use Rattle.book.specs.Stands.{OnlyLooks, Stands};
 ghost use Rattle.book.specs.Values.{hold_view, stamp_view};
-ghost use Rattle.operations.specs.Continuation.{Carries, Closes, HasBegun, IsAskedFor, IsBelow, IsCarried};
+ghost use Rattle.operations.specs.Continuation.{BeginsOnlyIf, Carries, Closes, IsAskedFor, IsBelow, IsCarried};
 ghost use Rattle.operations.specs.Continuation.{IsLookFault, entries_of, last_stamp_of};
 ghost use Rattle.operations.specs.DatabaseFaults.{IsOpeningFault};
 ghost use Rattle.operations.specs.OverFiles.{IsContinuedOver, IsDoneOver, IsMadeOver, IsRefusedBy};
@@ -54,6 +54,9 @@ pub fn continue_in<F: DatabaseFiles, N: DatabaseFiles>(
     // By the refusal, what was done to the old ones.
     ensures refused { IfErr result (IsRefusedBy F.Disk.Disk F.held
         (F.refuses old.entry.files old.entry.path.now) floor) }
+
+    // The old one is closed only where the new path was found free.
+    ensures free { BeginsOnlyIf (N.is_free new.entry.files new.entry.path.now) result }
 {
     continuations_go_on();
     identities_tell_who_signed();
@@ -78,7 +81,7 @@ struct Closing {
 impl Operation<(), ()> for Closing {
     type Answer = Result<Carried, ContinuationFault>;
 
-    ghost answers = { λ _ _ _ _ _ _. Unit {0} };
+    ghost answers = { λ closing _ _ _ _ done. BeginsOnlyIf (IsOk closing.room) done };
 
     ghost moves = { λ _ g closing old new _ _ _ _ done. IfErr closing.room IsOpeningFault
         → Carries g closing.floor old new done };
@@ -107,6 +110,7 @@ fn close_at<F: DatabaseFiles>(
         Carries g closing.floor opened left (Ok carried))) }
     ensures refused { IfErr result (IsRefusedBy F.Disk.Disk F.held
         (F.refuses database.entry.files database.entry.path.now) closing.floor) }
+    ensures room { BeginsOnlyIf (IsOk closing.room) result }
 {
     match perform_at(alloc, database, closing, &mut (), &mut ()) {
         Ok(done) => done,
@@ -121,7 +125,7 @@ fn carry<B: Book>(
     closing: Closing,
 ) -> Result<Carried, ContinuationFault>
     ensures done { IfErr closing.room IsOpeningFault → Carries B.Standing closing.floor book.old book.new result }
-    ensures room { MatchResult result (λ _. IsOk closing.room) (λ fault. HasBegun fault → IsOk closing.room) }
+    ensures room { BeginsOnlyIf (IsOk closing.room) result }
 {
     let carried = look_up(alloc, book, closing.floor)?;
     closing.room?;

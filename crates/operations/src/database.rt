@@ -42,6 +42,9 @@ pub trait DatabaseFiles: Drop {
     // making a database is refused so
     ghost refuses_making: { Self → List ℕ → SpecFault → Type 0 };
 
+    // at a path nothing stands but what a database can be made in
+    ghost is_free: { Self → List ℕ → Type 0 };
+
     // taking one to the schema of now is refused so
     ghost refuses_migrating: { Self → List ℕ → SpecFault → Type 0 };
 
@@ -68,7 +71,8 @@ pub trait DatabaseFiles: Drop {
 
     /// Whether one can be made at a path, as far as can be seen before: refused as `make` is.
     fn may_make(&self, path: &str) -> Result<(), StoreFault>
-        ensures { IfErr result IsOpeningFault };
+        ensures free { OnOk result (is_free self.now path.now) }
+        ensures refusals { IfErr result IsOpeningFault };
 
     /// Takes the database at a path to the schema of now, in one commit: each row is kept. Refused as `open` is.
     fn migrate(self, path: &str) -> Result<(), StoreFault>

@@ -1,6 +1,6 @@
 //! What this machine gives: the files of its databases, and the signers that it reaches.
 ghost use Rattle.std.specs.Prelude.{◌≡◌, IfErr, IfOk};
-ghost use Rattle.store.specs.Files.{image_at};
+ghost use Rattle.store.specs.Files.{IsFreeAt, image_at};
 ghost use Rattle.operations.specs.DatabaseFaults.{IsOpeningFault, IsUnreached};
 ghost use Rattle.operations.specs.OverFiles.{IsAny, IsClosedAs, IsReached};
 ghost use Rattle.operations.specs.Signing.{IsOfKind, algorithm_of};
@@ -11,32 +11,23 @@ use crate::signers::{AnySigner, HostSigner, Signers};
 use book::Entry;
 use cms::{Algorithm, KeyedHash, Signer};
 use sessions::{KeyHolderSigner, SIGNER_SECONDS, Session, connect_reconnecting, connect_signer};
-use sqlite::{FileFrom, FileStore, Start};
+use sqlite::{FileFrom, FileStore, Start, Unknown};
 use sqlite_disk::{Disk, Files};
 use std::io::Stderr;
 use std::time::Duration;
-use store::{Store, StoreFault, may_make_at};
+use store::{Paths, Store, StoreFault, may_make_at};
 
 /// The files of one database of this machine, before they are opened.
 #[derive(Drop)]
-pub struct HostFiles<'a, F> {
-    /// The system.
-    rt: &'a HostRuntime,
+pub struct HostFiles<'a, F, P> {
+    /// What sees what stands at paths.
+    pub paths: &'a P,
     /// What is supposed of the files.
     pub start: F,
 }
 
-impl<'a, F: Start + Drop> HostFiles<'a, F> {
-    /// Those of the machine, of which that is supposed.
-    pub fn new(rt: &'a HostRuntime, start: F) -> HostFiles<'a, F>
-        ensures { result.start ≡ start }
-    {
-        HostFiles { rt, start }
-    }
-}
-
 /// Of a refusal it tells the kind.
-impl<F: Start + Drop> DatabaseFiles for HostFiles<'_, F> {
+impl<F: Start + Drop, P: Paths> DatabaseFiles for HostFiles<'_, F, P> {
     type Disk = FileFrom<F>;
 
     ghost held = { image_at F.Start };
@@ -45,10 +36,13 @@ impl<F: Start + Drop> DatabaseFiles for HostFiles<'_, F> {
 
     ghost refuses_making = { λ _ _ fault. IsOpeningFault fault };
 
+    ghost is_free = { λ files path. IsFreeAt ⟦<FileFrom<Unknown> as Disk>⟧ (image_at ⟦<Unknown as Start>⟧) P.Paths
+        files.paths.now path };
+
     ghost refuses_migrating = { λ _ _ fault. IsOpeningFault fault };
 
     fn open(self, path: &str) -> Result<Store<FileStore<FileFrom<F>>>, StoreFault> {
-        Store::open(self.rt, path, self.start)
+        Store::open(self.paths, path, self.start)
     }
 
     fn make(
@@ -56,15 +50,15 @@ impl<F: Start + Drop> DatabaseFiles for HostFiles<'_, F> {
         path: &str,
         entries: &[Entry<'_>],
     ) -> Result<Store<FileStore<FileFrom<F>>>, StoreFault> {
-        Store::make_with(self.rt, path, self.start, entries)
+        Store::make_with(self.paths, path, self.start, entries)
     }
 
     fn may_make(&self, path: &str) -> Result<(), StoreFault> {
-        may_make_at(self.rt, path)
+        may_make_at(self.paths, path)
     }
 
     fn migrate(self, path: &str) -> Result<(), StoreFault> {
-        Store::migrate_at(self.rt, path, self.start)
+        Store::migrate_at(self.paths, path, self.start)
     }
 }
 

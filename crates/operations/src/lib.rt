@@ -31,4 +31,5 @@ pub use question::{Question, answer};
 pub use signers::{AnySigner, HostSigner, Signers};
 pub use sqlite::{FileFrom, Start, Unknown};
 pub use sqlite_disk::Disk;
+pub use store::Paths;
 pub use void_stamp::Floor;

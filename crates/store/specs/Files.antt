@@ -19,8 +19,9 @@ use Rattle.sqlite.specs.declared.error.ErrorCode.TheVariants as code
 use Rattle.sqlite.specs.Closing.{IsCopied}
 use Rattle.book.specs.declared.fault.StoreFault.{StoreFault}
 use Rattle.book.specs.declared.fault.StoreFault.TheVariants.{Database, NotOurs}
-use Rattle.store.specs.declared.place.FileState.{FileState}
-use Rattle.store.specs.declared.place.FileState.TheVariants as found
+use Rattle.store.specs.declared.paths.FileState.{FileState}
+use Rattle.store.specs.declared.paths.FileState.TheVariants as found
+use Rattle.store.specs.declared.paths.Paths.{Ghosts as Sight}
 use Rattle.store.specs.declared.path.Course.{Course}
 use Rattle.store.specs.declared.path.Course.TheVariants as course
 use Rattle.sqlite.specs.declared.file.Leftover.{Leftover}
@@ -158,12 +159,17 @@ pub record IsBare {D : Type 0} (g : Ghosts D) (held : Image) : Type 0 where
   pub found : HasCleanDisk (file_state was) → IsOpened was × FindsIn held (file_state was)
   pub bare : (file_state was).now.schema ≡ no_schema
 
--- nothing of the counter's or another's stands there
-abbrev pub IsFree : {D : Type 0} → Ghosts D → Image → FileState → Type 0
-IsFree g held found.Nothing = Unit {0}
-IsFree g held found.Empty = Unit {0}
-IsFree g held found.Database = IsBare g held
-IsFree g held found.Other = ⊥
+-- nothing of the counter's or another's stands there; where nothing does at all, a file can be made
+abbrev pub IsFree : {D : Type 0} → Ghosts D → Image → Type 0 → FileState → Type 0
+IsFree g held CanMake found.Nothing = CanMake
+IsFree g held CanMake found.Empty = Unit {0}
+IsFree g held CanMake found.Database = IsBare g held
+IsFree g held CanMake found.Other = ⊥
+
+-- so it is with a path, by what was seen there
+abbrev pub IsFreeAt : {D P : Type 0} → Ghosts D → Image → Sight P → P → List ℕ → Type 0
+IsFreeAt g held sight paths path =
+    (found : FileState) × sight.sees paths path found × IsFree g held (sight.makes paths path) found
 
 -- why files are another's
 abbrev pub IsForeign : {D : Type 0} → Ghosts D → Image → Type 0

@@ -7,6 +7,7 @@ mod deposits;
 mod labels;
 mod laws;
 mod path;
+mod paths;
 mod place;
 mod ranges;
 mod sequence;
@@ -21,4 +22,5 @@ pub use laws::{
     rows_stand_exactly, serials_rise,
 };
 pub use path::may_make_at;
+pub use paths::{FileState, Paths};
 pub use store::Store;

@@ -15,14 +15,15 @@ ghost use Rattle.book.specs.Sound.{IsSound};
 ghost use Rattle.store.specs.TablesOf.{tables_of};
 ghost use Rattle.store.specs.Stands.{Stands};
 ghost use Rattle.store.specs.Files.{OpensFound, IsForeign, OpensNothing, SeemsForeign, IsMigrated, HasMigrated};
-ghost use Rattle.store.specs.Files.{FailsToOpen, IsBare, IsFree, MigratesFound};
+ghost use Rattle.store.specs.Files.{FailsToOpen, IsBare, IsFree, IsFreeAt, MigratesFound};
 ghost use Rattle.store.specs.Files.{told_opening};
 ghost use Rattle.store.specs.Files.{fault_where, fault_where_made, fault_at};
 ghost use Rattle.book.specs.Fault.{IsOfStorageOr};
 ghost use Rattle.sqlite.specs.declared.error.Error.{Error as SpecError};
 
 use crate::connection::close;
-use crate::place::{FileState, Place, find, try_making};
+use crate::paths::{FileState, Paths};
+use crate::place::{Place, find};
 use crate::store::Store;
 use book::{Entry, StoreFault};
 use sqlite::{Alter, Connection, Error, ErrorCode, FileFrom, FileStore, Start, Unknown};
@@ -41,8 +42,8 @@ impl<T: Start + Drop> Store<FileStore<FileFrom<T>>> {
     /// Opens the counter's database at a path. Refused with `Memory`; with `Database` where no file stands there, or it
     /// can't be read or written; and with `NotOurs` where what stands there is a file of no octets, one that doesn't
     /// begin as a database, or a database of another's, as for `adopt`. What stands there is left as it is then.
-    pub fn open(
-        rt: &HostRuntime,
+    pub fn open<P: Paths>(
+        paths: &P,
         path: &str,
         start: T,
     ) -> Result<Store<FileStore<FileFrom<T>>>, StoreFault>
@@ -51,16 +52,16 @@ impl<T: Start + Drop> Store<FileStore<FileFrom<T>>> {
         ensures uncounted { IfOk result (λ store. store.faults ≡ 0) }
         ensures refusals { IfErr result (IsOfStorageOr StoreFault.NotOurs) }
     {
-        let place = find_database(rt, path)?;
-        Store::open_files(rt, place, start, Course::Adopt, &[])
+        let place = find_database(paths, path)?;
+        Store::open_files(paths.system(), place, start, Course::Adopt, &[])
     }
 
     /// Makes the tables in a new database at a path, where no file stands, one of no octets, or a database without
     /// tables: the store stands for the empty history. Refused with `Memory`; with `Database` where the file can't be
     /// made, read or written; and with `NotOurs` where something else stands there, a database of the counter's too,
     /// which is left as it is.
-    pub fn make(
-        rt: &HostRuntime,
+    pub fn make<P: Paths>(
+        paths: &P,
         path: &str,
         start: T,
     ) -> Result<Store<FileStore<FileFrom<T>>>, StoreFault>
@@ -70,14 +71,14 @@ impl<T: Start + Drop> Store<FileStore<FileFrom<T>>> {
         ensures uncounted { IfOk result (λ store. store.faults ≡ 0) }
         ensures refusals { IfErr result (IsOfStorageOr StoreFault.NotOurs) }
     {
-        Store::make_with(rt, path, start, &[])
+        Store::make_with(paths, path, start, &[])
     }
 
     /// Makes the tables in a new database at a path, and adds entries, the first of them first, all in one commit: the
     /// store stands for the history of these entries. The caller's condition is that each fits the history of those
     /// before it. Refused as `make` is: a refusal, and a stop at any moment, leaves no tables or all with these entries.
-    pub fn make_with(
-        rt: &HostRuntime,
+    pub fn make_with<P: Paths>(
+        paths: &P,
         path: &str,
         start: T,
         entries: &[Entry<'_>],
@@ -89,20 +90,20 @@ impl<T: Start + Drop> Store<FileStore<FileFrom<T>>> {
         ensures uncounted { IfOk result (λ store. store.faults ≡ 0) }
         ensures refusals { IfErr result (IsOfStorageOr StoreFault.NotOurs) }
     {
-        let place = find(rt, path)?;
+        let place = find(paths, path)?;
         may_make(place.found)?;
-        Store::open_files(rt, place, start, Course::Create, entries)
+        Store::open_files(paths.system(), place, start, Course::Create, entries)
     }
 
     /// Takes the counter's database at a path to the schema of now, in one commit, and keeps each row; one of that
     /// schema stays as it is. Refused as `open` is: a database of an earlier schema is the counter's here. What stands
     /// there is left as it is then.
-    pub fn migrate_at(rt: &HostRuntime, path: &str, start: T) -> Result<(), StoreFault>
+    pub fn migrate_at<P: Paths>(paths: &P, path: &str, start: T) -> Result<(), StoreFault>
         ensures migrated { IfOk result (λ _. MigratesFound ⟦<FileFrom<T> as Disk>⟧ (image_at T.Start)) }
         ensures refusals { IfErr result (IsOfStorageOr StoreFault.NotOurs) }
     {
-        let place = find_database(rt, path)?;
-        Store::migrate_at_place(rt, place, start)
+        let place = find_database(paths, path)?;
+        Store::migrate_at_place(paths.system(), place, start)
     }
 
     /// Opens the files at a place, and adopts the tables there or creates them, with these entries. The caller's
@@ -161,12 +162,12 @@ fn migrate_files<D: Disk + Drop>(
 }
 
 /// The place of a database.
-fn find_database<'path>(rt: &HostRuntime, path: &'path str) -> Result<Place<'path>, StoreFault>
+fn find_database<'path, P: Paths>(paths: &P, path: &'path str) -> Result<Place<'path>, StoreFault>
     ensures found { IfOk result (λ place. fault_where place.found ≡ Ok tt) }
     ensures there { IfOk result (λ place. place.path.now ≡ path.now) }
     ensures refusals { IfErr result (IsOfStorageOr StoreFault.NotOurs) }
 {
-    let place = find(rt, path)?;
+    let place = find(paths, path)?;
     may_open(place.found)?;
     Ok(place)
 }
@@ -194,22 +195,24 @@ fn may_make(found: FileState) -> Result<(), StoreFault>
 
 /// Whether tables can be made in a new database at a path, as far as can be seen before: refused as `make` is, but for
 /// what fails once they are written. What stands there is left as it is, and no file is left where none stood.
-pub fn may_make_at(rt: &HostRuntime, path: &str) -> Result<(), StoreFault>
-    ensures { IfErr result (IsOfStorageOr StoreFault.NotOurs) }
+pub fn may_make_at<P: Paths>(paths: &P, path: &str) -> Result<(), StoreFault>
+    ensures free { OnOk result (IsFreeAt ⟦<FileFrom<Unknown> as Disk>⟧ (image_at ⟦<Unknown as Start>⟧)
+        P.Paths paths.now path.now) }
+    ensures refusals { IfErr result (IsOfStorageOr StoreFault.NotOurs) }
 {
-    may_make_at_place(rt, find(rt, path)?)
+    may_make_at_place(paths, find(paths, path)?)
 }
 
 /// The same at a place: where they can be made, nothing of the counter's or another's stands there.
-fn may_make_at_place(rt: &HostRuntime, place: Place<'_>) -> Result<(), StoreFault>
+fn may_make_at_place<P: Paths>(paths: &P, place: Place<'_>) -> Result<(), StoreFault>
     ensures free { OnOk result (IsFree ⟦<FileFrom<Unknown> as Disk>⟧ (image_at ⟦<Unknown as Start>⟧)
-        place.entry.found) }
+        (P.makes paths.now place.entry.path.now) place.entry.found) }
     ensures refusals { IfErr result (IsOfStorageOr StoreFault.NotOurs) }
 {
     may_make(place.found)?;
     match place.found {
-        FileState::Nothing => Ok(try_making(rt, place.path)?),
-        FileState::Database => look_for_tables(rt, place.path),
+        FileState::Nothing => Ok(paths.try_making(place.path)?),
+        FileState::Database => look_for_tables(paths.system(), place.path),
         FileState::Empty | FileState::Other => Ok(()),
     }
 }

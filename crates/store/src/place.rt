@@ -3,23 +3,12 @@ ghost use Rattle.std.specs.Prelude.{◌≡◌, ◌↔◌, IfOk, IfErr, IsTrue};
 ghost use Rattle.store.specs.Files.{beginning, found_as};
 ghost use Rattle.book.specs.Fault.{IsOfStorage};
 
+use crate::paths::{FileState, Paths};
 use book::StoreFault;
 use std::fs;
 use std::fs::File;
 use std::io::{self, ErrorKind, Read};
-
-/// What stands at a path.
-#[derive(Clone, Copy)]
-pub(crate) enum FileState {
-    /// No file.
-    Nothing,
-    /// A file of no octets.
-    Empty,
-    /// A file that begins as a database does, or one whose log holds octets.
-    Database,
-    /// Another file.
-    Other,
-}
+use std::rt::HostRuntime;
 
 /// How a database begins.
 const BEGINNING: &[u8; 16] = b"SQLite format 3\0";
@@ -31,27 +20,44 @@ pub(crate) struct Place<'path> {
     pub(crate) found: FileState,
 }
 
-/// What stands at the path. Refused with `Database` where it can't be read or isn't a file, and with `Memory` where
-/// memory runs out.
-pub(crate) fn find<'path>(rt: &HostRuntime, path: &'path str) -> Result<Place<'path>, StoreFault>
-    ensures there { IfOk result (λ place. place.path.now ≡ path.now) }
-    ensures refusals { IfErr result IsOfStorage }
-{
-    match look(rt, path) {
-        Ok(found) => Ok(Place { path, found }),
-        Err(error) if error.kind() == ErrorKind::OutOfMemory => Err(StoreFault::Memory),
-        Err(_) => Err(StoreFault::Database),
+/// It tells nothing: no contract says what stands at a path of the machine.
+impl Paths for HostRuntime {
+    fn system(&self) -> &HostRuntime {
+        self
+    }
+
+    fn look(&self, path: &str) -> Result<FileState, StoreFault> {
+        match look(self, path) {
+            Ok(found) => Ok(found),
+            Err(error) => Err(fault_of(error)),
+        }
+    }
+
+    fn try_making(&self, path: &str) -> Result<(), StoreFault> {
+        match make_and_remove(self, path) {
+            Ok(()) => Ok(()),
+            Err(error) => Err(fault_of(error)),
+        }
     }
 }
 
-/// Whether a file can be made at a path where none stands: one is made, and taken away again. Refused as `find` is.
-pub(crate) fn try_making(rt: &HostRuntime, path: &str) -> Result<(), StoreFault>
-    ensures { IfErr result IsOfStorage }
+/// The path, and what stands there. Refused as `Paths::look` is.
+pub(crate) fn find<'path, P: Paths>(paths: &P, path: &'path str) -> Result<Place<'path>, StoreFault>
+    ensures there { IfOk result (λ place. place.path.now ≡ path.now) }
+    ensures seen { IfOk result (λ place. P.sees paths.now path.now place.found) }
+    ensures refusals { IfErr result IsOfStorage }
 {
-    match make_and_remove(rt, path) {
-        Ok(()) => Ok(()),
-        Err(error) if error.kind() == ErrorKind::OutOfMemory => Err(StoreFault::Memory),
-        Err(_) => Err(StoreFault::Database),
+    let found = paths.look(path)?;
+    Ok(Place { path, found })
+}
+
+/// Want of memory as it is, and any other error as the database's.
+fn fault_of(error: io::Error) -> StoreFault
+    ensures { IsOfStorage result }
+{
+    match error.kind() {
+        ErrorKind::OutOfMemory => StoreFault::Memory,
+        _ => StoreFault::Database,
     }
 }
 

@@ -22,7 +22,7 @@ pub returns-in_ok-continue_in-in-Continue-clause-done : goal.returns-in_ok-conti
 returns-in_ok-continue_in-in-Continue-clause-done g c = λ _.
     rw c.in-Continue.is (
       refl,
-      c.in_ok-continue_in-in-Continue.ensures.continued,
+      (c.in_ok-continue_in-in-Continue.ensures.continued, c.in_ok-continue_in-in-Continue.ensures.free),
       appends_nothing (g.O.Write.contents c.args.output.now),
     )
 

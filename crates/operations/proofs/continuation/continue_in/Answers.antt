@@ -1,4 +1,4 @@
-use Rattle.operations.proofs.GoingOn.{continued_in, unfinished_in}
+use Rattle.operations.proofs.GoingOn.{continued_in, unfinished_in, where_ok}
 use Rattle.operations.proofs.continuation.continue_in.Goals as goal
 
 pub returns-in-Ok-clause-continued : goal.returns-in-Ok-clause-continued
@@ -17,3 +17,7 @@ pub returns-clause-refused : goal.returns-clause-refused
 returns-clause-refused g c =
     unfinished_in _ _ (g.F.DatabaseFiles.refuses c.args.old.files c.args.old.path.now) _ c.in_ok-carried.carried c.in-Err.fault c.in-Err.ensures.refusals
     c.in_ok-carried.ensures.closed
+
+pub returns-in-Ok-clause-free : goal.returns-in-Ok-clause-free
+returns-in-Ok-clause-free g c =
+    where_ok c.may_make-room.result c.in_ok-carried.ensures.room c.may_make-room.ensures.free
