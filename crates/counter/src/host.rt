@@ -32,10 +32,12 @@ impl<'a, F: Start + Drop, S> Host<'a, F, S> {
         ensures path { result.path.now ≡ path.now }
         ensures start { result.files.start ≡ self.entry.start }
     {
-        let files = HostFiles {
-            paths: self.rt,
-            start: self.start,
-        };
-        Database { path, files }
+        Database {
+            path,
+            files: HostFiles {
+                paths: self.rt,
+                start: self.start,
+            },
+        }
     }
 }

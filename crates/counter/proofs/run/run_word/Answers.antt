@@ -22,7 +22,10 @@ pub returns-in_ok-continue_in-in-Continue-clause-done : goal.returns-in_ok-conti
 returns-in_ok-continue_in-in-Continue-clause-done g c = λ _.
     rw c.in-Continue.is (
       refl,
-      (c.in_ok-continue_in-in-Continue.ensures.continued, c.in_ok-continue_in-in-Continue.ensures.free),
+      (
+        c.in_ok-continue_in-in-Continue.ensures.continued,
+        rw (c.another-new.ensures.paths, c.another-new.ensures.path) at c.in_ok-continue_in-in-Continue.ensures.free,
+      ),
       appends_nothing (g.O.Write.contents c.args.output.now),
     )
 
