@@ -1,9 +1,10 @@
 -- A number above the greatest is no deposit's in any sound history.
-use Rattle.std.proofs.Common.{◌≡◌, ℕ, ◌<◌, ◌≤◌, ◌==◌, Bool, true, false, cond, [], ◌∷◌, Option, Some, None, refl, arith}
+use Rattle.std.proofs.Common.{◌≡◌, ℕ, ◌<◌, ◌≤◌, ◌==◌, Bool, true, false, cond, List, [], ◌∷◌, Option, Some, None}
+use Rattle.std.proofs.Common.{refl, arith}
 use Rattle.std.proofs.lemmas.Bool.{eqb-true, ne_eqb}
 use Rattle.book.specs.History.{Reserved, Deposited, History, ReservationValue, reservation_at, deposit_at}
 use Rattle.book.specs.Readers.{Viewer}
-use Rattle.book.specs.Rights.{is_visible, deposit_with_stamp}
+use Rattle.book.specs.Rights.{is_own, is_visible, deposit_with_stamp}
 use Rattle.book.specs.Sound.{IsSound, greatest_number}
 
 here_within : (n : ℕ) (x r : ReservationValue) (at : Option ReservationValue) (same : Bool) → (x.serial == n) ≡ same
@@ -32,6 +33,10 @@ deposit_beyond (_ ∷ b) n s beyond = deposit_beyond b n s.1 beyond
 
 pub stamped_beyond : (b : History) (n : ℕ) → IsSound b → greatest_number < n → None ≡ deposit_with_stamp n b
 stamped_beyond b n s beyond = rw (deposit_beyond b n s beyond) refl
+
+pub unowned_beyond : (account : List ℕ) (b : History) (n : ℕ) → IsSound b → greatest_number < n
+    → false ≡ is_own account n b
+unowned_beyond account b n s beyond = rw (deposit_beyond b n s beyond) refl
 
 pub unseen_beyond : (viewer : Viewer) (b : History) (n : ℕ) → IsSound b → greatest_number < n
     → false ≡ is_visible viewer n b

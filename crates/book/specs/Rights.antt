@@ -33,6 +33,14 @@ shown_to viewer reads d = if bytes_eq d.owner viewer.name || reads then Some d e
 abbrev pub seen_by : Viewer → ℕ → History → Option DepositRow
 seen_by viewer number b = option_and_then (shown_to viewer (may_read viewer number b)) (deposit_at number b)
 
+-- the deposit with that number is the account's own
+abbrev pub is_of : List ℕ → Option DepositRow → Bool
+is_of account None = false
+is_of account (Some d) = bytes_eq d.owner account
+
+abbrev pub is_own : List ℕ → ℕ → History → Bool
+is_own account number b = is_of account (deposit_at number b)
+
 abbrev pub is_visible : Viewer → ℕ → History → Bool
 is_visible viewer number b = is_some (seen_by viewer number b)
 

@@ -9,7 +9,7 @@ ghost use Rattle.book.specs.History.{Installed, count_of_day, calibrations, hold
 ghost use Rattle.book.specs.History.{deposit_under};
 ghost use Rattle.book.specs.Identities.{identities};
 ghost use Rattle.book.specs.Readers.{Account, Group};
-ghost use Rattle.book.specs.Rights.{is_visible, listed, deposit_with_stamp};
+ghost use Rattle.book.specs.Rights.{is_own, is_visible, listed, deposit_with_stamp};
 ghost use Rattle.book.specs.Shows.{ShowsSame};
 ghost use Rattle.book.specs.Sound.{IsSound, IsExhausted, IsBackwards, greatest_number};
 ghost use Rattle.book.specs.Stands.{Stands, OnlyLooks, LeavesAsBefore};
@@ -91,6 +91,17 @@ pub trait Book: Standing {
         ensures value { Self.honest self.new → (b : History) → Stands Self.Standing b self.old
             → IfOk result (λ visible.
             visible ≡ is_visible (viewer_of account.now (map (λ name. name.now) groups.now)) number b) }
+        ensures refusals { IfErr result IsOfStorage }
+        ensures faults { CountsFaults result (Self.fault_count self.old) (Self.fault_count self.new) };
+
+    /// Whether there is a deposit with a number that the account owns. No deposit's bytes are read. A number above
+    /// 2^63 - 1 is no deposit's, and what keeps the book isn't asked for it.
+    fn is_owner(&mut self, number: u64, account: &str) -> Result<bool, StoreFault>
+        ensures looks { OnlyLooks Self.Standing self.old self.new }
+        ensures beyond { greatest_number < number → (result ≡ Ok false) × (self.new ≡ self.old) }
+        ensures opened { Self.honest self.new → number ≤ greatest_number → OnOk result (Self.is_open self.old) }
+        ensures value { Self.honest self.new → (b : History) → Stands Self.Standing b self.old
+            → IfOk result (λ owns. owns ≡ is_own account.now number b) }
         ensures refusals { IfErr result IsOfStorage }
         ensures faults { CountsFaults result (Self.fault_count self.old) (Self.fault_count self.new) };
 

@@ -104,6 +104,13 @@ impl<B: Book> Book for FailingBook<B> {
         self.book.visible(number, account, groups)
     }
 
+    fn is_owner(&mut self, number: u64, account: &str) -> Result<bool, StoreFault> {
+        if number <= GREATEST_NUMBER {
+            self.begin()?;
+        }
+        self.book.is_owner(number, account)
+    }
+
     fn by_reference(
         &mut self,
         owner: &str,

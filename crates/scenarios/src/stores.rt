@@ -168,6 +168,11 @@ fn tell_visible<B: Book>(printer: Printer<'_>, store: &mut B, words: &mut Words<
     printer.tell(&store.visible(number, account, named(&names)));
 }
 
+fn tell_owner<B: Book>(printer: Printer<'_>, store: &mut B, words: &mut Words<'_>) {
+    let number = words.number();
+    printer.tell(&store.is_owner(number, words.next()));
+}
+
 fn tell_deposit(printer: Printer<'_>, deposit: &Deposit) {
     printer.tell(&(
         deposit.serial,
@@ -223,6 +228,7 @@ fn show<B: Book>(printer: Printer<'_>, store: &mut B, word: &str, words: &mut Wo
         "list" => list_within(printer, store, u64::MAX, words),
         "list-within" => list_limited(printer, store, words),
         "visible" => tell_visible(printer, store, words),
+        "owner" => tell_owner(printer, store, words),
         "deposit" => tell_stamped(printer, store, words),
         "under" => tell_under(printer, store, words),
         "faults" => tell_faults(printer, store),

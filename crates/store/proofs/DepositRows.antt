@@ -20,7 +20,7 @@ use Rattle.book.specs.History.{Reserved, Sealed, Deposited, Granted, Revoked, Hi
 use Rattle.book.specs.History.{ReservationValue, reservations, reservation_at, greatest_serial, deposits}
 use Rattle.book.specs.History.{deposit_at, deposit_under, token_of, stamp_of, stamps, stamp_at}
 use Rattle.book.specs.Readers.{Reader, is_same, Viewer, readers_as}
-use Rattle.book.specs.Rights.{is_reader, may_read, shown_to, is_visible}
+use Rattle.book.specs.Rights.{is_of, is_own, is_reader, may_read, shown_to, is_visible}
 use Rattle.book.specs.Sound.{IsSound, greatest_number}
 use Rattle.store.specs.Replay.{replayed}
 use Rattle.store.proofs.FallingSerials.{stamps_fall}
@@ -289,21 +289,31 @@ owned_none ds n a none =
       | inr not ↦ not
     ]))
 
+own_at : (b : History) (n : ℕ) (a : List ℕ) (o : Option DepositRow) → IsSound b → deposit_at n b ≡ o
+    → list_any (is_owned n a) (deposits b) ≡ is_of a o
+own_at b n a None s e = owned_none (deposits b) n a e
+own_at b n a (Some d) s e = owned_is (deposits b) n a d (single_number b n s) e
+
+-- an owner's row is there where the deposit is its own
+pub own_view : (b : History) (n : ℕ) (a : List ℕ) → IsSound b
+    → list_any (is_owned n a) (replayed b).deposits ≡ is_own a n b
+own_view b n a s = rw (deposits_are b) (own_at b n a (deposit_at n b) s refl)
+
 visible_at : (b : History) (n : ℕ) (viewer : Viewer) (o : Option DepositRow) → IsSound b → deposit_at n b ≡ o
-    → (list_any (is_owned n viewer.name) (deposits b) || may_read viewer n b)
+    → (is_of viewer.name o || may_read viewer n b)
     ≡ is_some (option_and_then (shown_to viewer (may_read viewer n b)) o)
-visible_at b n viewer None s e = rw (owned_none (deposits b) n viewer.name e, no_right b n viewer s e) refl
-visible_at b n viewer (Some d) s e =
-    rw (owned_is (deposits b) n viewer.name d (single_number b n s) e)
-    (choose (bytes_eq d.owner viewer.name || may_read viewer n b)) where
-      choose : (v : Bool) → v ≡ is_some (cond v (Some d) None)
-      choose true = refl
-      choose false = refl
+visible_at b n viewer None s e = no_right b n viewer s e
+visible_at b n viewer (Some d) s e = choose (bytes_eq d.owner viewer.name || may_read viewer n b) where
+  choose : (v : Bool) → v ≡ is_some (cond v (Some d) None)
+  choose true = refl
+  choose false = refl
 
 -- visible is what has an owner's row, or what who asks may read
 pub visible_view : (b : History) (n : ℕ) (viewer : Viewer) → IsSound b
     → (list_any (is_owned n viewer.name) (replayed b).deposits || may_read viewer n b) ≡ is_visible viewer n b
-visible_view b n viewer s = rw (deposits_are b) (visible_at b n viewer (deposit_at n b) s refl)
+visible_view b n viewer s =
+    ap (λ own. own || may_read viewer n b) (own_view b n viewer.name s)
+    ∙ visible_at b n viewer (deposit_at n b) s refl
 
 -- ---- numbers
 
@@ -382,19 +392,16 @@ pub seen_by_reader : (b : History) (n : ℕ) (viewer : Viewer) (reads : Bool) �
     → reads ≡ may_read viewer n b → true ≡ is_visible viewer n b
 seen_by_reader b n viewer reads s true_is found =
     let read : may_read viewer n b ≡ true = sym found ∙ true_is in
-    sym (rw read (or_true (list_any (is_owned n viewer.name) (replayed b).deposits))) ∙ visible_view b n viewer s where
+    sym (rw read (or_true (is_own viewer.name n b))) ∙ visible_at b n viewer (deposit_at n b) s refl where
       or_true : (v : Bool) → (v || true) ≡ true
       or_true true = refl
       or_true false = refl
 
 pub seen_by_owner : (b : History) (n : ℕ) (viewer : Viewer) (reads owns : Bool) → IsSound b → reads ≡ false
-    → reads ≡ may_read viewer n b
-    → owns ≡ list_any (is_owned n viewer.name) (replayed b).deposits
-    → owns ≡ is_visible viewer n b
+    → reads ≡ may_read viewer n b → owns ≡ is_own viewer.name n b → owns ≡ is_visible viewer n b
 seen_by_owner b n viewer reads owns s false_is found own =
     let read : may_read viewer n b ≡ false = sym found ∙ false_is in
-    own ∙ sym (rw read (or_false (list_any (is_owned n viewer.name) (replayed b).deposits)))
-    ∙ visible_view b n viewer s where
+    own ∙ sym (rw read (or_false (is_own viewer.name n b))) ∙ visible_at b n viewer (deposit_at n b) s refl where
       or_false : (v : Bool) → (v || false) ≡ v
       or_false true = refl
       or_false false = refl

@@ -101,6 +101,13 @@ impl<S: Alter + Drop> Book for Store<S> {
         if reads {
             return Ok(true);
         }
+        self.is_owner(number, account)
+    }
+
+    fn is_owner(&mut self, number: u64, account: &str) -> Result<bool, StoreFault> {
+        if number > GREATEST_NUMBER {
+            return Ok(false);
+        }
         let owns = self.base.is_owner(number, account)?;
         Ok(owns)
     }
