@@ -1,19 +1,25 @@
 -- What stands in the way of seeing a deposit, or of a right to it, is answered so.
-use Rattle.std.proofs.Common.{◌≡◌, ℕ, List, [], Some, None, Ok, refl, sym, ap, ◌∙◌, inl, inr}
+use Rattle.std.proofs.Common.{◌≡◌, ℕ, List, [], Option, Some, None, option_map, option_and_then, Ok, refl, sym, ap, ◌∙◌}
+use Rattle.std.proofs.Common.{inl, inr}
 use Rattle.tsp.specs.Granted.{granted_octets}
+use Rattle.book.specs.declared.fault.StoreFault.{StoreFault}
 use Rattle.book.specs.declared.fault.StoreFault.TheVariants as store
 use Rattle.book.specs.declared.standing.Standing.{Ghosts}
-use Rattle.book.specs.History.{History, token_of}
+use Rattle.book.specs.Fault.{IsOfStorage, count_after}
+use Rattle.book.specs.History.{History, stamp_at, stamp_of, token_of}
 use Rattle.book.specs.Readers.{Reader, Viewer}
-use Rattle.book.specs.Rights.{seen_by}
-use Rattle.book.specs.Rows.{DepositRow}
+use Rattle.book.specs.Rights.{deposit_with_stamp, seen_by}
+use Rattle.book.specs.Rows.{DepositRow, StampRow}
+use Rattle.book.specs.Sound.{IsSound}
 use Rattle.book.specs.Stands.{Stands, OnlyLooks}
+use Rattle.book.specs.Values.{deposit_view, stamped_view}
+use Rattle.book.specs.declared.values.StampedDeposit.{StampedDeposit}
 use Rattle.desk.specs.Calls.{call_of}
 use Rattle.desk.specs.Command.{Setting, Command, Answer, Shown, Refused}
 use Rattle.desk.specs.Effects.{only, unless, no_sight, show_effect, token_effect, reply_or_nothing}
 use Rattle.desk.specs.Fit.{IsFit}
 use Rattle.desk.specs.Fault as sight
-use Rattle.desk.specs.Obstacles.{fault_with, hindered, IsOfSight, IsOfRight, IsUnseen}
+use Rattle.desk.specs.Obstacles.{fault_with, hindered, token_in, IsOfSight, IsOfRight, IsUnseen, Sees}
 use Rattle.desk.specs.Outcome.{Call, Fine, Outcome, OfMemory, cause_of, faults_after, all_fine}
 use Rattle.desk.specs.MachineStep.{HasEffect}
 use Rattle.desk.specs.CallContract.{no_signer, IsBlamed, IsOpened, StepsBy}
@@ -22,6 +28,9 @@ use Rattle.desk.specs.declared.fault.Fault.TheVariants as fault
 use Rattle.desk.specs.declared.obstacle.Obstacle.{Obstacle}
 use Rattle.desk.specs.declared.obstacle.Obstacle.TheVariants as obstacle
 use Rattle.desk.proofs.Fits.{none_failed}
+use Rattle.desk.proofs.Judgement.{looks_then, same_count}
+use Rattle.desk.proofs.Shows.{deposit_reserved}
+use Rattle.desk.proofs.Sighted.{may_see}
 
 blamed : {B : Type 0} (reader : Reader) (g : Ghosts B) (c : Command) (old new : B) (x : Obstacle)
     → IsOfRight reader x
@@ -91,6 +100,21 @@ pub denied : {B : Type 0} (reader : Reader) (g : Ghosts B) (s : Setting) (c : Co
 denied reader g s c old new x fits opened of looks counted has =
     looks_as g s c old new (hindered x) (Refused (fault_with x)) (denied_fits reader c x fits of) counted
     (blamed reader g c old new x of) (opened (fault_with x)) looks has
+
+-- what is seen can't be looked up
+pub unlooked : {B : Type 0} (reader : Reader) (g : Ghosts B) (s : Setting) (c : Command) (viewer : Viewer) (n : ℕ)
+    (old mid new : B) (f : StoreFault) → ((searching looking : Call) → IsFit c (looked_up searching looking))
+    → ((f : Fault) → IsOpened g c (Refused f) new) → IsOfStorage f → OnlyLooks g old mid
+    → g.fault_count mid ≡ g.fault_count old → OnlyLooks g mid new
+    → g.fault_count new ≡ count_after f (g.fault_count mid)
+    → (g.honest mid → (b : History) → Stands g b old → Sees viewer n b)
+    → ((b : History) → Sees viewer n b
+    → HasEffect s c (hindered (obstacle.Looking f)) b (only (Refused (fault_with (obstacle.Looking f)))))
+    → StepsBy g no_signer s c (hindered (obstacle.Looking f)) old new (Refused (fault_with (obstacle.Looking f)))
+unlooked reader g s c viewer n old mid new f fits opened of one same other faults sees has =
+    denied reader g s c old new (obstacle.Looking f) fits opened of (looks_then g old mid new one other)
+    (faults ∙ (ap (count_after f) same ∙ same_count f (g.fault_count old)))
+    (λ honest b st. has b (sees (other.honest honest) b st))
 
 -- as a fault it is what a look-up may be refused with
 pub sight_told : (x : Obstacle) → IsOfSight x → sight.IsOfSight (fault_with x)
@@ -182,6 +206,28 @@ pub told : (viewer : Viewer) (n : ℕ) (b : History) (d : DepositRow) (token rep
 told viewer n b d token reply seen sealed is =
     ap (λ x. only (Shown x)) is
     ∙ sym (ap (token_effect None (token_of n b)) seen ∙ ap (λ x. only (reply_or_nothing x)) sealed)
+
+-- its token is that of the stamp that is found with its number
+pub token_found : (viewer : Viewer) (n : ℕ) (b : History) (d : DepositRow) (found : Option StampRow) → IsSound b
+    → seen_by viewer n b ≡ Some d → found ≡ stamp_at n b → token_of n b ≡ token_in found
+token_found viewer n b d found sound seen is =
+    let reserved = deposit_reserved b sound n d (may_see viewer n b d seen).deposited in
+    sym (ap token_in is ∙ ap (λ r. token_in (option_map (stamp_of (token_of n b)) r)) reserved.1)
+
+-- what is found with a number is what is seen
+first_is : (d : DepositRow) (o : Option StampRow) (x : DepositRow × StampRow) → Some x ≡ option_map (λ s. (d, s)) o
+    → d ≡ x.0
+first_is d None x e = cc
+first_is d (Some s) x e = let both : x ≡ (d, s) = cc in sym (ap (λ p. p.0) both)
+
+pub deposit_found : (viewer : Viewer) (n : ℕ) (b : History) (d : DepositRow) (found : StampedDeposit)
+    → seen_by viewer n b ≡ Some d → Some (stamped_view found) ≡ deposit_with_stamp n b
+    → seen_by viewer n b ≡ Some (deposit_view found.deposit)
+deposit_found viewer n b d found seen is =
+    let with : Option DepositRow → Option (DepositRow × StampRow) =
+    option_and_then (λ x. option_map (λ s. (x, s)) (stamp_at n b)) in
+    seen ∙ ap Some (first_is d (stamp_at n b) (stamped_view found)
+    (is ∙ ap with (may_see viewer n b d seen).deposited))
 
 -- what is seen has no token
 pub untokened : (viewer : Viewer) (n : ℕ) (b : History) (d : DepositRow) → seen_by viewer n b ≡ Some d

@@ -10,8 +10,8 @@ use Rattle.book.specs.declared.fault.StoreFault.TheVariants as store
 use Rattle.book.specs.declared.standing.Standing.{Ghosts}
 use Rattle.book.specs.Fault.{IsOfStorage}
 use Rattle.book.specs.History.{Entry, History}
-use Rattle.book.specs.Readers.{Reader}
-use Rattle.book.specs.Rights.{seen_by}
+use Rattle.book.specs.Readers.{Reader, Viewer}
+use Rattle.book.specs.Rights.{is_of, is_own, seen_by}
 use Rattle.book.specs.Rows.{DepositRow}
 use Rattle.book.specs.Sound.{Fits, FitsRight}
 use Rattle.book.specs.Entries.{Appends}
@@ -38,6 +38,7 @@ use Rattle.desk.specs.declared.rights.Change.TheVariants.{Give, Take}
 use Rattle.desk.proofs.Denied.{denied}
 use Rattle.desk.proofs.Fits.{none_failed}
 use Rattle.desk.proofs.Beginnings.{one_in_doubt}
+use Rattle.desk.proofs.Sighted.{may_see}
 use Rattle.desk.proofs.StepFacts.{right_seen}
 use Rattle.desk.proofs.Wrapped.{wrapped}
 
@@ -53,6 +54,11 @@ unseen_named file account reader n b (obstacle.Searching f) of h = tt
 unseen_named file account reader n b (obstacle.Looking f) of h = h
 unseen_named file account reader n b obstacle.OutOfMemory of h = absurd of
 unseen_named file account reader n b (obstacle.Adding f) of h = absurd of
+
+-- what is seen is whose it is asked for
+pub owned : (viewer : Viewer) (account : List ℕ) (n : ℕ) (b : History) (d : DepositRow) (owns : Bool)
+    → seen_by viewer n b ≡ Some d → owns ≡ is_own account n b → bytes_eq d.owner account ≡ owns
+owned viewer account n b d owns seen is = sym (is ∙ ap (is_of account) (may_see viewer n b d seen).deposited)
 
 -- the owner may give a right, or what is against it stands in the way
 pub named_by : {A : Type 0} (file : PolicyValue) (account : List ℕ) (reader : Reader) (n : ℕ) (b : History)

@@ -93,39 +93,6 @@ pub unseen_where : (viewer : Viewer) (n : ℕ) (b : History) → false ≡ is_vi
     → seen_by viewer n b ≡ None
 unseen_where viewer n b e = none_where (seen_by viewer n b) e
 
-some_if : {A : Type 0} (here : Bool) (x : A) → true ≡ is_some (cond here (Some x) None)
-    → cond here (Some x) None ≡ Some x
-some_if true x e = refl
-some_if false x e = cc
-
-seen_as : (viewer : Viewer) (reads : Bool) (found : StampedDeposit) (token : Option (List ℕ))
-    (reserved : Option ReservationValue) (at : Option DepositRow)
-    → true ≡ is_some (option_and_then (shown_to viewer reads) at)
-    → Some (stamped_view found) ≡ with_stamp token reserved at
-    → (option_and_then (shown_to viewer reads) at ≡ Some (deposit_view found.deposit))
-    × (token ≡ option_map (λ t. t.items) found.stamp.token)
-seen_as viewer reads found token reserved None e is = cc
-seen_as viewer reads found token None (Some d) e is = cc
-seen_as viewer reads found token (Some r) (Some d) e is =
-    let both : stamped_view found ≡ (d, stamp_of token r) = cc in (
-      some_if (bytes_eq d.owner viewer.name || reads) d e ∙ sym (ap (λ x. Some x.0) both),
-      sym (ap (λ x. x.1.token) both),
-    )
-
--- what is visible and found is what is seen
-pub sees_found : (viewer : Viewer) (n : ℕ) (b : History) (found : StampedDeposit) → true ≡ is_visible viewer n b
-    → found_as (Some found) ≡ deposit_with_stamp n b → Sees viewer n b found
-sees_found viewer n b found e is =
-    let both = seen_as viewer (may_read viewer n b) found (token_of n b) (reservation_at n b) (deposit_at n b) e is in
-    record { seen = both.0; token = both.1 }
-
--- what is visible is seen where it is found, and else nobody sees it
-pub sees_where : (viewer : Viewer) (n : ℕ) (b : History) (found : Option StampedDeposit) → IsSound b
-    → true ≡ is_visible viewer n b → found_as found ≡ deposit_with_stamp n b
-    → MatchResult (ok_or found obstacle.NotHere) (Sees viewer n b) (IsUnseen viewer n b)
-sees_where viewer n b None sound e is = unseen viewer n b sound is
-sees_where viewer n b (Some found) sound e is = sees_found viewer n b found e is
-
 -- an account of the file has the name
 known_at : (name : List ℕ) (a : AccountValue) (accounts : List AccountValue) (here : Bool)
     → is_some (find (λ x. bytes_eq x.name name) accounts) ≡ is_among (map (λ x. x.name) accounts) name

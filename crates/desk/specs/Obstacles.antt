@@ -1,15 +1,13 @@
 -- What stands in the way of a call on deposits and rights: stepping stones of the proofs.
-use Rattle.std.specs.Prelude.{◌≡◌, ℕ, true, false, List, [], Some, None, option_map, Result, Ok, Err}
+use Rattle.std.specs.Prelude.{◌≡◌, ℕ, true, false, List, [], Option, Some, None, option_and_then, Result, Ok, Err}
 use Rattle.std.specs.Str.{bytes_eq}
 use Rattle.policy.specs.Record.{PolicyValue}
 use Rattle.book.specs.Fault.{IsOfStorage}
-use Rattle.book.specs.Rows.{DepositRow}
-use Rattle.book.specs.Values.{deposit_view}
-use Rattle.book.specs.History.{History, token_of}
+use Rattle.book.specs.Rows.{DepositRow, StampRow}
+use Rattle.book.specs.History.{History}
 use Rattle.book.specs.Readers.{Reader, Viewer}
 use Rattle.book.specs.Rights.{seen_by}
 use Rattle.book.specs.declared.fault.StoreFault.{StoreFault}
-use Rattle.book.specs.declared.values.StampedDeposit.{StampedDeposit}
 use Rattle.desk.specs.Outcome.{Outcome, OutOfMemory, all_fine}
 use Rattle.desk.specs.Command.{Answer, Refused}
 use Rattle.desk.specs.Effects.{fault_of, objection}
@@ -82,10 +80,13 @@ IsOfRight reader (obstacle.Looking f) = IsOfStorage f
 IsOfRight reader obstacle.OutOfMemory = ⊥
 IsOfRight reader (obstacle.Adding f) = ⊥
 
--- who asks sees this deposit, and its number has this token
-pub record Sees (viewer : Viewer) (number : ℕ) (b : History) (found : StampedDeposit) : Type 0 where
-  pub seen : seen_by viewer number b ≡ Some (deposit_view found.deposit)
-  pub token : token_of number b ≡ option_map (λ t. t.items) found.stamp.token
+-- who asks sees a deposit with that number
+abbrev pub Sees : Viewer → ℕ → History → Type 0
+Sees viewer number b = (d : DepositRow) × (seen_by viewer number b ≡ Some d)
+
+-- the token of a stamp that is found, if it has one
+abbrev pub token_in : Option StampRow → Option (List ℕ)
+token_in found = option_and_then (λ s. s.token) found
 
 -- it sees none with that number, or what it sees couldn't be read
 abbrev pub IsUnseen : Viewer → ℕ → History → Obstacle → Type 0
@@ -95,7 +96,7 @@ IsUnseen viewer number b obstacle.UnknownReader = Unit {0}
 IsUnseen viewer number b obstacle.UnknownGroup = Unit {0}
 IsUnseen viewer number b obstacle.SelfGrant = Unit {0}
 IsUnseen viewer number b (obstacle.Searching f) = Unit {0}
-IsUnseen viewer number b (obstacle.Looking f) = (d : DepositRow) × (seen_by viewer number b ≡ Some d)
+IsUnseen viewer number b (obstacle.Looking f) = Sees viewer number b
 IsUnseen viewer number b obstacle.OutOfMemory = Unit {0}
 IsUnseen viewer number b (obstacle.Adding f) = Unit {0}
 
@@ -135,7 +136,6 @@ MayNot file account reader number b obstacle.UnknownGroup =
 MayNot file account reader number b obstacle.SelfGrant =
     (d : DepositRow) × (Owns file account number b d × (objection file account reader ≡ Some fault.SelfGrant))
 MayNot file account reader number b (obstacle.Searching f) = Unit {0}
-MayNot file account reader number b (obstacle.Looking f) =
-    (d : DepositRow) × (seen_by (viewer_in file account) number b ≡ Some d)
+MayNot file account reader number b (obstacle.Looking f) = Sees (viewer_in file account) number b
 MayNot file account reader number b obstacle.OutOfMemory = Unit {0}
 MayNot file account reader number b (obstacle.Adding f) = Unit {0}

@@ -95,8 +95,9 @@ fn may_name<B: Book + Drop>(
         (MayNot (policy_view policy.now) account.now (reader_view reader.entry) number b) }
     ensures refusals { IfErr result (IsOfRight (reader_view reader.entry)) }
 {
-    let found = see(store, policy, account, number)?;
-    if found.deposit.owner.as_str() != account {
+    see(store, policy, account, number)?;
+    let owns = store.is_owner(number, account).map_err(Obstacle::Looking)?;
+    if !owns {
         return Err(Obstacle::NotOwner);
     }
     may_read(policy, account, reader)

@@ -1,17 +1,18 @@
 //! What an account sees.
-ghost use Rattle.std.specs.Prelude.{◌≡◌, ◌⊎◌, map, IfOk, IfErr, MatchResult};
+ghost use Rattle.std.specs.Prelude.{◌≡◌, ◌⊎◌, map, option_map, IfOk, IfErr, MatchResult};
 ghost use Rattle.std.specs.Io.KnownBytes.{Keeps};
 ghost use Rattle.policy.specs.View.{account_view, policy_view};
 ghost use Rattle.book.specs.Fault.{CountsFaults, IsOfStorage};
 ghost use Rattle.book.specs.History.{History};
-ghost use Rattle.book.specs.Rights.{is_visible, listed};
+ghost use Rattle.book.specs.Rights.{listed};
 ghost use Rattle.book.specs.Stands.{Stands, OnlyLooks};
-ghost use Rattle.book.specs.Values.{listed_view};
+ghost use Rattle.book.specs.Values.{listed_view, stamp_view};
 ghost use Rattle.desk.specs.CallContract.{StepsBy, no_signer};
 ghost use Rattle.desk.specs.Calls.{settings_view};
 ghost use Rattle.desk.specs.Command.{Show, Token, ListAll};
 ghost use Rattle.desk.specs.Fault as sight;
-ghost use Rattle.desk.specs.Obstacles.{fault_with, outcome_with, told_with, IsOfSight, Sees, IsUnseen};
+ghost use Rattle.desk.specs.Obstacles.{fault_with, outcome_with, told_with, token_in};
+ghost use Rattle.desk.specs.Obstacles.{IsOfSight, Sees, IsUnseen};
 ghost use Rattle.desk.specs.Outcome.{faults_after};
 ghost use Rattle.desk.specs.Shown.{shown_as, listed_as};
 ghost use Rattle.desk.specs.Viewers.{viewer_in};
@@ -19,27 +20,34 @@ ghost use Rattle.desk.specs.Viewers.{viewer_in};
 use crate::fault::Fault;
 use crate::obstacle::Obstacle;
 use crate::settings::Settings;
-use book::{Book, Listed, StampedDeposit, StoreFault};
+use book::{Book, Listed, Stamp, StoreFault};
 use policy::{Account, Policy};
 use std::alloc::Global;
 use std::io::Write;
 use tsp::write_granted;
 
-/// Whether an account, which the policy file knows with its groups, sees the deposit with a number.
-fn is_seen<B: Book + Drop>(
+/// An account, which the policy file knows with its groups, sees the deposit with a number.
+pub(crate) fn see<B: Book + Drop>(
     store: &mut B,
     policy: &Policy,
     account: &str,
     number: u64,
-) -> Result<bool, StoreFault>
+) -> Result<(), Obstacle>
     ensures looks { OnlyLooks B.Standing store.old store.new }
-    ensures value { B.honest store.new → (b : History) → Stands B.Standing b store.old
-        → IfOk result (λ seen. seen ≡ is_visible (viewer_in (policy_view policy.now) account.now) number b) }
-    ensures refusals { IfErr result IsOfStorage }
-    ensures faults { CountsFaults result (B.fault_count store.old) (B.fault_count store.new) }
+    ensures counted { B.fault_count store.new ≡ faults_after (outcome_with result) (B.fault_count store.old) }
+    ensures sees { B.honest store.new → (b : History) → Stands B.Standing b store.old
+        → MatchResult result (λ _. Sees (viewer_in (policy_view policy.now) account.now) number b)
+        (IsUnseen (viewer_in (policy_view policy.now) account.now) number b) }
+    ensures refusals { IfErr result IsOfSight }
 {
     let groups = policy.groups_of(account);
-    store.visible(number, account, groups.as_slice())
+    let visible = store
+        .visible(number, account, groups.as_slice())
+        .map_err(Obstacle::Searching)?;
+    if !visible {
+        return Err(Obstacle::NotHere);
+    }
+    Ok(())
 }
 
 /// All that such an account sees, by number, as long as the output can be flushed.
@@ -61,26 +69,11 @@ fn all_seen<B: Book + Drop, W: Write>(
     store.list(account, groups.as_slice(), output)
 }
 
-/// The deposit with a number, and its stamp, where the account sees it. It is read only then.
-pub(crate) fn see<B: Book + Drop>(
-    store: &mut B,
-    policy: &Policy,
-    account: &str,
-    number: u64,
-) -> Result<StampedDeposit, Obstacle>
-    ensures looks { OnlyLooks B.Standing store.old store.new }
-    ensures counted { B.fault_count store.new ≡ faults_after (outcome_with result) (B.fault_count store.old) }
-    ensures sees { B.honest store.new → (b : History) → Stands B.Standing b store.old
-        → MatchResult result (Sees (viewer_in (policy_view policy.now) account.now) number b)
-        (IsUnseen (viewer_in (policy_view policy.now) account.now) number b) }
-    ensures refusals { IfErr result IsOfSight }
+/// The token of a stamp that is found, if it has one.
+fn token_in(found: Option<Stamp>) -> Option<Vec<u8>>
+    ensures { option_map (λ token. token.items) result ≡ token_in (option_map stamp_view found) }
 {
-    let visible = is_seen(store, policy, account, number).map_err(Obstacle::Searching)?;
-    if !visible {
-        return Err(Obstacle::NotHere);
-    }
-    let found = store.deposit(number).map_err(Obstacle::Looking)?;
-    found.ok_or(Obstacle::NotHere)
+    found?.token
 }
 
 /// The octets of a deposit that the account sees.
@@ -96,11 +89,15 @@ pub(crate) fn show_to<B: Book + Drop>(
     ensures refusals { IfErr result (λ obstacle. sight.IsOfSight (fault_with obstacle)) }
 {
     let policy = settings.policy;
-    let found = see(store, policy, account.name.as_str(), number)?;
+    see(store, policy, account.name.as_str(), number)?;
+    let found = store.deposit(number).map_err(Obstacle::Looking)?;
+    let Some(found) = found else {
+        return Err(Obstacle::NotHere);
+    };
     Ok(found.deposit.bytes)
 }
 
-/// The granted reply with the token of a deposit that the account sees.
+/// The granted reply with the token of a deposit that the account sees. The deposit isn't read.
 pub(crate) fn token_to<B: Book + Drop>(
     store: &mut B,
     alloc: Global,
@@ -114,10 +111,9 @@ pub(crate) fn token_to<B: Book + Drop>(
     ensures refusals { IfErr result (λ obstacle. sight.IsOfSight (fault_with obstacle)) }
 {
     let policy = settings.policy;
-    let found = see(store, policy, account.name.as_str(), number)?;
-    let stamp = found.stamp;
-    let token = stamp.token;
-    let Some(token) = token else {
+    see(store, policy, account.name.as_str(), number)?;
+    let found = store.next_stamp(number, number).map_err(Obstacle::Looking)?;
+    let Some(token) = token_in(found) else {
         return Err(Obstacle::NotHere);
     };
     let Ok(reply) = write_granted(alloc, &token) else {
