@@ -18,7 +18,6 @@ use Rattle.desk.specs.Calls.{call_of}
 use Rattle.desk.specs.Command.{Setting, Command, Answer, Shown, Refused}
 use Rattle.desk.specs.Effects.{only, unless, no_sight, show_effect, token_effect, reply_or_nothing}
 use Rattle.desk.specs.Fit.{IsFit}
-use Rattle.desk.specs.Fault as sight
 use Rattle.desk.specs.Obstacles.{fault_with, hindered, token_in, IsOfSight, IsOfRight, IsUnseen, Sees}
 use Rattle.desk.specs.Outcome.{Call, Fine, Outcome, OfMemory, cause_of, faults_after, all_fine}
 use Rattle.desk.specs.MachineStep.{HasEffect}
@@ -115,26 +114,6 @@ unlooked reader g s c viewer n old mid new f fits opened of one same other fault
     denied reader g s c old new (obstacle.Looking f) fits opened of (looks_then g old mid new one other)
     (faults ∙ (ap (count_after f) same ∙ same_count f (g.fault_count old)))
     (λ honest b st. has b (sees (other.honest honest) b st))
-
--- as a fault it is what a look-up may be refused with
-pub sight_told : (x : Obstacle) → IsOfSight x → sight.IsOfSight (fault_with x)
-sight_told obstacle.NotHere of = tt
-sight_told obstacle.NotOwner of = absurd of
-sight_told obstacle.UnknownReader of = absurd of
-sight_told obstacle.UnknownGroup of = absurd of
-sight_told obstacle.SelfGrant of = absurd of
-sight_told (obstacle.Searching store.Memory) of = tt
-sight_told (obstacle.Searching store.Database) of = tt
-sight_told (obstacle.Searching store.NotOurs) of = tt
-sight_told (obstacle.Searching store.Full) of = tt
-sight_told (obstacle.Searching store.Backwards) of = tt
-sight_told (obstacle.Looking store.Memory) of = tt
-sight_told (obstacle.Looking store.Database) of = tt
-sight_told (obstacle.Looking store.NotOurs) of = tt
-sight_told (obstacle.Looking store.Full) of = tt
-sight_told (obstacle.Looking store.Backwards) of = tt
-sight_told obstacle.OutOfMemory of = absurd of
-sight_told (obstacle.Adding f) of = absurd of
 
 pub sight_is_right : (reader : Reader) (x : Obstacle) → IsOfSight x → IsOfRight reader x
 sight_is_right reader obstacle.NotHere of = tt

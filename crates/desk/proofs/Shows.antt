@@ -1,9 +1,8 @@
 -- Who sees a deposit, and whom the policy file names.
 use Rattle.std.proofs.Common.{◌≡◌, ℕ, ◌==◌, ◌||◌, cond, Bool, true, false, is_some, List, [], ◌∷◌, map, Option, Some}
-use Rattle.std.proofs.Common.{None, refl, sym, ap, ◌∙◌, subst}
-use Rattle.std.specs.Prelude.{MatchResult}
+use Rattle.std.proofs.Common.{None, refl, ap, ◌∙◌, subst}
 use Rattle.std.specs.List.{find}
-use Rattle.std.specs.Option.{ok_or, option_and_then, option_map}
+use Rattle.std.specs.Option.{option_and_then, option_map}
 use Rattle.std.specs.Str.{bytes_eq}
 use Rattle.std.proofs.lemmas.Bool.{eqb-true}
 use Rattle.policy.specs.Record.{AccountValue, PolicyValue}
@@ -15,11 +14,9 @@ use Rattle.book.specs.History.{Installed, ReservationValue, stamp_of, token_of, 
 use Rattle.book.specs.Readers.{Viewer}
 use Rattle.book.specs.Rights.{may_read, shown_to, seen_by, is_visible, deposit_with_stamp}
 use Rattle.book.specs.Sound.{Along, Fits, FitsSealed, IsSound}
-use Rattle.book.specs.Values.{deposit_view, stamped_view}
+use Rattle.book.specs.Values.{stamped_view}
 use Rattle.book.specs.declared.values.StampedDeposit.{StampedDeposit}
 use Rattle.desk.specs.Effects.{has_account}
-use Rattle.desk.specs.Obstacles.{Sees, IsUnseen}
-use Rattle.desk.specs.declared.obstacle.Obstacle.TheVariants as obstacle
 use Rattle.desk.proofs.Views.{reservation_stays}
 
 abbrev with_stamp : Option (List ℕ) → Option ReservationValue → Option DepositRow → Option (DepositRow × StampRow)

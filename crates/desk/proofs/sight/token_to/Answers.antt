@@ -12,7 +12,7 @@ use Rattle.desk.specs.Obstacles.{Sees, IsUnseen}
 use Rattle.desk.specs.Outcome.{OutOfMemory, all_fine}
 use Rattle.desk.specs.declared.fault.Fault.TheVariants as fault
 use Rattle.desk.specs.declared.obstacle.Obstacle.TheVariants as obstacle
-use Rattle.desk.proofs.Denied.{looks_as, denied, sight_is_right, sight_told, token_found, unlooked, untold, untokened}
+use Rattle.desk.proofs.Denied.{looks_as, denied, sight_is_right, token_found, unlooked, untold, untokened}
 use Rattle.desk.proofs.Denied.{told, ungrown}
 use Rattle.desk.proofs.Fits.{none_failed}
 use Rattle.desk.proofs.Judgement.{looks_then}
