@@ -7,7 +7,8 @@ use Rattle.policy.specs.Record.{AccountValue}
 use Rattle.desk.specs.CallContract.{DeskValue}
 use Rattle.service.specs.Answers.{refusal_answer, success}
 use Rattle.service.specs.Handlers.{AnswersReport}
-use Rattle.service.specs.Readers.{is_own, readers_text}
+use Rattle.book.specs.Rights.{is_own}
+use Rattle.service.specs.Readers.{readers_text}
 use Rattle.service.specs.Reports.{IsBodyOf, IsOwnWhere, IsRefusedBy, Seen, keeps_back, tells}
 use Rattle.service.specs.Requests.{OfReaders}
 use Rattle.service.specs.Served.{Sends}

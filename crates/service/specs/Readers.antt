@@ -1,22 +1,13 @@
 -- What the owner of a deposit is told of its readers: a line for each account and each group of the policy file that
 -- has the right to read it.
-use Rattle.std.specs.Prelude.{ℕ, Bool, false, not, ◌&&◌, List, [], ◌++◌, codes, map, Option, Some, None, if◌then◌else◌}
+use Rattle.std.specs.Prelude.{ℕ, Bool, not, ◌&&◌, List, [], ◌++◌, codes, map, if◌then◌else◌}
 use Rattle.std.specs.List.{flat_map}
 use Rattle.std.specs.Str.{bytes_eq}
 use Rattle.policy.specs.Record.{PolicyValue}
-use Rattle.book.specs.History.{History, deposit_at}
+use Rattle.book.specs.History.{History}
 use Rattle.book.specs.Readers.{Reader, Account, Group}
 use Rattle.book.specs.Rights.{is_reader}
-use Rattle.book.specs.Rows.{DepositRow}
 use Rattle.service.specs.Status.{named}
-
-abbrev pub is_owned : List ℕ → Option DepositRow → Bool
-is_owned account None = false
-is_owned account (Some d) = bytes_eq d.owner account
-
--- there is a deposit with the number, and it is the account's own
-abbrev pub is_own : List ℕ → ℕ → History → Bool
-is_own account number b = is_owned account (deposit_at number b)
 
 -- the last entry about the deposit and the reader is a grant; of the owner, who needs none, it isn't told
 abbrev pub has_right : List ℕ → ℕ → History → Reader → Bool

@@ -13,7 +13,8 @@ use Rattle.desk.specs.Calls.{looked_at}
 use Rattle.desk.specs.Facts.{clock_of}
 use Rattle.service.specs.Accounts.{IsUsedAt, account_text}
 use Rattle.service.specs.Answers.{AnswerValue, refusal_answer, success, unavailable}
-use Rattle.service.specs.Readers.{is_own, readers_text}
+use Rattle.book.specs.Rights.{is_own}
+use Rattle.service.specs.Readers.{readers_text}
 use Rattle.service.specs.Refusals.{refusal_of_extract}
 use Rattle.service.specs.Requests.{Report, Extract, Status, OfAccount, OfReaders, IsText}
 use Rattle.service.specs.Status.{IsStatusText}

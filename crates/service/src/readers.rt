@@ -1,13 +1,13 @@
 //! Who may read a deposit, for its owner.
-ghost use Rattle.std.specs.Prelude.{◌≡◌, ◌++◌, ℕ, true, map, option_map, IfOk, IfSome, OnSome, string_bytes};
+ghost use Rattle.std.specs.Prelude.{◌≡◌, ◌++◌, ℕ, true, map, IfSome, OnSome, string_bytes};
 ghost use Rattle.std.specs.List.{flat_map};
 ghost use Rattle.policy.specs.View.{account_view, policy_view};
 ghost use Rattle.book.specs.Entries.{reader_view};
 ghost use Rattle.book.specs.History.{History};
 ghost use Rattle.book.specs.Readers.{Account as Named, Group as NamedGroup};
+ghost use Rattle.book.specs.Rights.{is_own};
 ghost use Rattle.book.specs.Stands.{Stands, OnlyLooks};
-ghost use Rattle.book.specs.Values.{deposit_view};
-ghost use Rattle.service.specs.Readers.{is_owned, is_own, has_right, reader_named, reader_line, readers_text};
+ghost use Rattle.service.specs.Readers.{has_right, reader_named, reader_line, readers_text};
 ghost use Rattle.service.specs.Handlers.{AnswersReport};
 ghost use Rattle.service.specs.Requests.{OfReaders};
 ghost use Rattle.service.specs.Served.{TellsFailure};
@@ -20,33 +20,10 @@ use crate::responses::{out_of_memory, refuse, succeed};
 use crate::served::Served;
 use crate::status::append_named;
 use audit::Output;
-use book::{Book, Reader, StampedDeposit, StoreFault};
+use book::{Book, Reader};
 use desk::Desk;
 use policy::{Account, Group, Policy};
 use std::alloc::Global;
-
-/// Whether a deposit was found, and is the account's.
-fn is_owned(found: Option<StampedDeposit>, account: &str) -> bool
-    ensures { result ≡ is_owned account.now (option_map (λ found. deposit_view found.deposit) found) }
-{
-    match found {
-        Some(found) => found.deposit.owner.as_str() == account,
-        None => false,
-    }
-}
-
-/// Whether the deposit with a number is the account's own. One that it doesn't see isn't read.
-fn is_own<B: Book + Drop>(store: &mut B, account: &str, number: u64) -> Result<bool, StoreFault>
-    ensures looks { OnlyLooks B.Standing store.old store.new }
-    ensures value { B.honest store.new → (b : History) → Stands B.Standing b store.old
-        → IfOk result (λ own. own ≡ is_own account.now number b) }
-{
-    if !store.visible(number, account, &[])? {
-        return Ok(false);
-    }
-    let found = store.deposit(number)?;
-    Ok(is_owned(found, account))
-}
 
 /// Whether an account has the right by its own name. Of the owner, who needs none, it isn't told.
 fn account_reads<B: Book + Drop>(
@@ -207,7 +184,7 @@ pub(crate) fn serve_readers<W: Output, B: Book + Drop>(
 {
     let file = desk.policy();
     let owner = account.name.as_str();
-    let Ok(own) = is_own(desk.store(), owner, number) else {
+    let Ok(own) = desk.store().is_owner(number, owner) else {
         return out_of_memory(writer, context.at);
     };
     if !own {

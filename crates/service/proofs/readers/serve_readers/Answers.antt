@@ -3,7 +3,8 @@ use Rattle.policy.specs.View.{account_view}
 use Rattle.book.specs.Stands.{OnlyLooks, Stands}
 use Rattle.desk.specs.CallContract.{with_store}
 use Rattle.service.specs.Answers.{unavailable}
-use Rattle.service.specs.Readers.{is_own, readers_text}
+use Rattle.book.specs.Rights.{is_own}
+use Rattle.service.specs.Readers.{readers_text}
 use Rattle.service.specs.Reports.{wants}
 use Rattle.service.specs.Views.{seen_at}
 use Rattle.service.proofs.ReadersTold.{hidden_told, readers_told}
@@ -15,8 +16,8 @@ returns-in_default-clause-served g c = λ faults. (unavailable, wants tt refl, c
 pub returns-then-not-own-clause-served : goal.returns-then-not-own-clause-served
 returns-then-not-own-clause-served g c = λ faults.
     hidden_told g.B.Standing g.W.Write.contents (seen_at c.args.context.now faults) c.args.writer.now
-    c.refuse.new.writer c.args.desk.now (with_store c.args.desk.now c.is_own.new.store)
-    (account_view c.args.account.now) c.args.number c.refuse.result c.is_own.new.store c.in-Ok.own
+    c.refuse.new.writer c.args.desk.now (with_store c.args.desk.now c.is_owner.new.self)
+    (account_view c.args.account.now) c.args.number c.refuse.result c.is_owner.new.self c.in-Ok.own
     (λ honest b stands.
     c.in-Ok.ensures.value honest b (subst (Stands g.B.Standing b) (sym c.store.ensures.same) stands)
     ∙ ap (λ name. is_own name c.args.number b) c.as_str-owner.ensures.value)
@@ -32,8 +33,8 @@ returns-in-Some-clause-served g c = λ faults.
     let owner = c.as_str-owner.ensures.value in
     readers_told g.B.Standing g.W.Write.contents (seen_at c.args.context.now faults) c.args.writer.now
     c.succeed.new.writer c.args.desk.now
-    (with_store (with_store c.args.desk.now c.is_own.new.store) c.readers_text.new.store)
-    (account_view c.args.account.now) number c.succeed.result c.is_own.new.store c.in-Ok.own
+    (with_store (with_store c.args.desk.now c.is_owner.new.self) c.readers_text.new.store)
+    (account_view c.args.account.now) number c.succeed.result c.is_owner.new.self c.in-Ok.own
     (λ honest b stands.
     c.in-Ok.ensures.value honest b (subst (Stands g.B.Standing b) (sym c.store.ensures.same) stands)
     ∙ ap (λ name. is_own name number b) owner)
