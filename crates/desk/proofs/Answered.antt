@@ -23,7 +23,7 @@ use Rattle.desk.specs.Findings.{HoldsUnasked}
 use Rattle.desk.specs.MachineRuns.{Runs, after}
 use Rattle.desk.specs.Outcome.{Call, Fine, OutOfMemory, Failed, Outcome, counted, faults_after}
 use Rattle.desk.specs.RunContract.{ArePromised}
-use Rattle.desk.specs.Sent.{texts_for, SendsReserved}
+use Rattle.desk.specs.Sent.{texts_for, AreForThosePassing, SendsReserved}
 use Rattle.desk.specs.Verdicts.{Verdict, Settled, Waits, JudgedStamp, rule_of, rules_of, all_looks, waits_of}
 use Rattle.desk.specs.Verdicts.{AreJudged, IsJudgedRightly, JudgesEach, merged, met_by, reply_for, IsToldBy}
 use Rattle.desk.specs.Together.{AreRejections, AreSignedAlike, IsDoubtedTogether, MayBeLeftTogether}
@@ -459,6 +459,34 @@ module _ {B S : Type 0} (g : Ghosts B) (signs : S → List ℕ → Result (List 
       (subst (λ xs. count y ≡ count_after_each xs (count x)) (sym written.signed) signer) sealed by
       (says ∙ ap (λ rs. merged rs completions) (sym h.rules_are)) tell)
 
+  -- what waits passes the rules 1 to 9
+  passing_before : (v : Verdict) (a : Question) (asked : List Question) (ws : List Waiting)
+      → ((rule : Rule) → IsFirstFailing (HoldsUnasked s.file a.account a.octets) rule → rule_of v ≡ Some rule)
+      → AreForThosePassing s.file asked (map waiting_view ws)
+      → AreForThosePassing s.file (a ∷ asked) (map waiting_view (waiting_before v ws))
+  passing_before (Settled why o) a asked ws unasked rest = inl rest
+  passing_before (Waits w) a asked ws unasked rest =
+      inr (
+        λ fails. let none : None ≡ Some fails.0 = unasked fails.0 fails.1 in cc,
+        waiting_view w,
+        map waiting_view ws,
+        refl,
+        rest,
+      )
+
+  passing : (js : List JudgedStamp) → AllByRecursion (IsJudgedRightly s) js
+      → AreForThosePassing s.file (questions_of js) (map waiting_view (waits_of js))
+  passing [] rightly = refl
+  passing (j ∷ js) rightly =
+      passing_before j.verdict j.question (questions_of js) (waits_of js) rightly.0.unasked (passing js rightly.1)
+
+  all_passing : (asked : List Question) (rules : List (Option Rule)) (ws : List Waiting) (old new : B)
+      → JudgesEach g s asked rules ws old new → AreForThosePassing s.file asked (map waiting_view ws)
+  all_passing asked rules ws old new h =
+      subst (λ qs. AreForThosePassing s.file qs (map waiting_view ws)) h.questions
+      (subst (λ xs. AreForThosePassing s.file (questions_of h.stamps) (map waiting_view xs)) h.waits
+      (passing h.stamps h.rightly))
+
   -- what went out are the texts of what they reserved
   pub sends_reserved : (sent : S → List (List ℕ) → S → Type 0) (asked : List Question) (rules : List (Option Rule))
       (ws : List Waiting) (ss : List (Result (List ℕ) SignerFault)) (vs : List SealValue) (told : List Answer)
@@ -468,6 +496,7 @@ module _ {B S : Type 0} (g : Ghosts B) (signs : S → List ℕ → Result (List 
       → SendsReserved g sent s asked old x new y
   sends_reserved sent asked rules ws ss vs told sealing old mid held x new y h reserving written sealed sends = record {
     reserved = map waiting_view ws;
+    passing = all_passing asked rules ws old mid h;
     sends = sends;
     batch = λ honest b stands.
         let js = h.stamps in
@@ -499,6 +528,7 @@ module _ {B S : Type 0} (g : Ghosts B) (signs : S → List ℕ → Result (List 
       → JudgesEach g s asked rules' [] held new → sent x [] x → SendsReserved g sent s asked old x new x
   sends_nothing sent asked rules rules' ws reserving old mid held new x h commit refusal again sends = record {
     reserved = [];
+    passing = all_passing asked rules' [] held new again;
     sends = sends;
     batch = λ honest b stands.
         let ks = again.stamps in

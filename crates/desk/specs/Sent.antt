@@ -1,5 +1,6 @@
 -- What goes out to the signer while stamps are answered together.
-use Rattle.std.specs.Prelude.{◌≡◌, ℕ, List, map}
+use Rattle.std.specs.Prelude.{◌≡◌, ◌⊎◌, ℕ, List, [], ◌∷◌, map}
+use Rattle.policy.specs.Record.{PolicyValue}
 use Rattle.book.specs.declared.standing.Standing.{Ghosts}
 use Rattle.book.specs.History.{History, ReservationValue}
 use Rattle.book.specs.Stands.{Stands}
@@ -8,6 +9,7 @@ use Rattle.desk.specs.Batches.{Question, HaveEffects, all_reserved, batch_of, af
 use Rattle.desk.specs.Command.{Setting}
 use Rattle.desk.specs.Effects.{Effect}
 use Rattle.desk.specs.Outcome.{Outcome}
+use Rattle.desk.specs.Together.{FailsUnasked}
 
 -- the texts of reservations, in their order
 abbrev pub texts_for : Setting → List ReservationValue → List (List ℕ)
@@ -22,9 +24,19 @@ pub record IsBatch {B : Type 0} (g : Ghosts B) (s : Setting) (asked : List Quest
   pub reserves : all_reserved effects ≡ reserved
   pub stands : Stands g (after_batch (batch_of effects) b) new
 
--- Whatever fails: nothing goes out but texts of what the stamps have reserved, in order, each at most once.
+-- These are for the stamps, in their order: at most one for each, and none for one that fails one of the rules 1 to 9.
+abbrev pub AreForThosePassing : PolicyValue → List Question → List ReservationValue → Type 0
+AreForThosePassing file [] rs = rs ≡ []
+AreForThosePassing file (a ∷ asked) rs =
+    AreForThosePassing file asked rs
+    ⊎ ((FailsUnasked file a → ⊥) × (r : ReservationValue) × (rest : List ReservationValue) × (rs ≡ r ∷ rest)
+    × AreForThosePassing file asked rest)
+
+-- Whatever fails, and whatever the store returns: nothing goes out but texts of what is reserved for stamps that pass
+-- the rules 1 to 9, in order, each at most once; and while it returns what was written, these are the reservations.
 pub record SendsReserved {B S : Type 0} (g : Ghosts B) (sent : S → List (List ℕ) → S → Type 0) (s : Setting)
     (asked : List Question) (old : B) (x : S) (new : B) (y : S) : Type 0 where
   pub reserved : List ReservationValue
+  pub passing : AreForThosePassing s.file asked reserved
   pub sends : sent x (texts_for s reserved) y
   pub batch : g.honest new → (b : History) → Stands g b old → IsBatch g s asked reserved b new
