@@ -20,13 +20,14 @@ use Rattle.desk.specs.Command.{Setting, Answer}
 use Rattle.desk.specs.Commits.{IsCommitted, untried, added, refused}
 use Rattle.desk.specs.Completions.{Completion, seals_of, texts_of, AreWaiting, AreWritten}
 use Rattle.desk.specs.Findings.{HoldsUnasked}
+use Rattle.desk.specs.Halves.{IsTried, at_once, anew}
 use Rattle.desk.specs.MachineRuns.{Runs, after}
 use Rattle.desk.specs.Outcome.{Call, Fine, OutOfMemory, Failed, Outcome, counted, faults_after}
 use Rattle.desk.specs.RunContract.{ArePromised}
 use Rattle.desk.specs.Sent.{texts_for, AreForThosePassing, SendsReserved}
 use Rattle.desk.specs.Verdicts.{Verdict, Settled, Waits, JudgedStamp, rule_of, rules_of, all_looks, waits_of}
-use Rattle.desk.specs.Verdicts.{AreJudged, IsJudgedRightly, JudgesEach, merged, met_by, reply_for, IsToldBy}
-use Rattle.desk.specs.Together.{AreRejections, AreSignedAlike, IsDoubtedTogether, MayBeLeftTogether}
+use Rattle.desk.specs.Verdicts.{AreJudged, IsJudgedRightly, JudgesEach, merged, met_by, reply_for, replies_by}
+use Rattle.desk.specs.Together.{AreFit, AreRejections, AreSignedAlike, IsDoubtedTogether, MayBeLeftTogether}
 use Rattle.desk.specs.Verdicts.{waiting_before}
 use Rattle.desk.specs.Together.{FailsUnasked, AreRejectedUnasked, IsAnsweredTogether}
 use Rattle.desk.specs.WaitingStamps.{waiting_view, pendings_in, with_waiting}
@@ -37,7 +38,7 @@ use Rattle.desk.proofs.Assembly.{move_in_turn, signers_counted, are_fit, all_wai
 use Rattle.desk.proofs.BatchJudgement.{judged_sound}
 use Rattle.desk.proofs.Batches.{ShowLaws, shows_itself, shows_over, reaches, judges_itself, stamp_shape}
 use Rattle.desk.proofs.Batches.{sound_adds, unsigned, fit_each, cut_once_reserved, cut_at_whole}
-use Rattle.desk.proofs.Committed.{commit_honest, commit_counted, commit_stands, commit_kept}
+use Rattle.desk.proofs.Committed.{none_told, none_committed, commit_honest, commit_counted, commit_stands, commit_kept}
 use Rattle.desk.proofs.CompletionLemmas.{seals_fit, void_seals}
 use Rattle.desk.proofs.Fits.{is_refused}
 use Rattle.desk.proofs.Promised.{keeps_promises}
@@ -115,12 +116,6 @@ all_rejected : (vs : List (Option Rule)) → AreRejections (merged vs [])
 all_rejected [] = tt
 all_rejected (Some rule ∷ vs) = ((rule, refl), all_rejected vs)
 all_rejected (None ∷ vs) = ((System, refl), all_rejected vs)
-
-none_told : (sealing : Call) (told completions : List Answer) → IsToldBy sealing told completions
-    → (sealing ≡ Fine → ⊥) → completions ≡ []
-none_told Fine told completions by refusal = absurd (refusal refl)
-none_told OutOfMemory told completions by refusal = by
-none_told Failed told completions by refusal = by
 
 -- entries that are added stand in front of what was there
 record AreInFront (entries : List Entry) (b : History) : Type 0 where
@@ -203,29 +198,31 @@ signed_alike [] zs one other = tt
 signed_alike (j ∷ js) zs one other =
     (inl (signed_one j.verdict zs one other), signed_alike js (behind j.verdict zs) one other)
 
-unsigned_alike : (js ks : List JudgedStamp) (zs ys : List Completion) (one other : Call)
-    → questions_of js ≡ questions_of ks
-    → AreSignedAlike (outcomes_of one js zs) (map unsigned (outcomes_of other ks ys))
-unsigned_alike [] [] zs ys one other same = tt
-unsigned_alike (j ∷ js) (k ∷ ks) zs ys one other same =
-    (inr refl, unsigned_alike js ks (behind j.verdict zs) (behind k.verdict ys) one other cc)
-unsigned_alike [] (k ∷ ks) zs ys one other same = absurd cc
-unsigned_alike (j ∷ js) [] zs ys one other same = absurd cc
+unsigned_alike : (asked : List Question) (os us : List Outcome) → AreFit asked os → AreFit asked us
+    → AreSignedAlike os (map unsigned us)
+unsigned_alike [] [] [] fits fit = tt
+unsigned_alike (a ∷ asked) (o ∷ os) (u ∷ us) fits fit = (inr refl, unsigned_alike asked os us fits.1 fit.1)
+unsigned_alike [] (o ∷ os) us fits fit = absurd fits
+unsigned_alike [] [] (u ∷ us) fits fit = absurd fit
+unsigned_alike (a ∷ asked) [] us fits fit = absurd fits
+unsigned_alike (a ∷ asked) (o ∷ os) [] fits fit = absurd fit
 
 fine_or_refused : (c : Call) → (c ≡ Fine) ⊎ (c ≡ Fine → ⊥)
 fine_or_refused Fine = inl refl
 fine_or_refused OutOfMemory = inr (λ fine. cc)
 fine_or_refused Failed = inr (λ fine. cc)
 
-says_by : (s : Setting) (sealing : Call) (js : List JudgedStamp) (zs : List Completion) (told completions : List Answer)
-    → AreOf s js zs → told ≡ replies_of zs → IsToldBy sealing told completions
-    → map (λ e. e.says) (effects_of s sealing js zs) ≡ merged (rules_of js) completions
-says_by s Fine js zs told completions of are by =
-    says_all s js zs of ∙ ap (merged (rules_of js)) (sym (by ∙ are))
-says_by s OutOfMemory js zs told completions of are by =
-    says_void s OutOfMemory (λ fine. cc) js zs ∙ ap (merged (rules_of js)) (sym by)
-says_by s Failed js zs told completions of are by =
-    says_void s Failed (λ fine. cc) js zs ∙ ap (merged (rules_of js)) (sym by)
+says_by : (s : Setting) (sealing : Call) (js : List JudgedStamp) (zs : List Completion) (told : List Answer)
+    → AreOf s js zs → told ≡ replies_of zs
+    → map (λ e. e.says) (effects_of s sealing js zs) ≡ merged (rules_of js) (replies_by sealing told)
+says_by s Fine js zs told of are = says_all s js zs of ∙ ap (merged (rules_of js)) (sym are)
+says_by s OutOfMemory js zs told of are = says_void s OutOfMemory (λ fine. cc) js zs
+says_by s Failed js zs told of are = says_void s Failed (λ fine. cc) js zs
+
+nothing_told : (sealing : Call) (told : List Answer) → told ≡ [] → replies_by sealing told ≡ []
+nothing_told Fine told none = none
+nothing_told OutOfMemory told none = refl
+nothing_told Failed told none = refl
 
 -- the history after both commits
 abbrev ends_in : Call → List JudgedStamp → List Completion → History → History
@@ -237,6 +234,87 @@ ends_whole s sealing js zs b of =
     let es = effects_of s sealing js zs in
     ap (λ v. with_sealed v (with_reserved (all_reserved es) b)) (seals_all s sealing js zs of)
     ∙ ap (λ rs. with_sealed (seals_of sealing zs) (with_reserved rs b)) (reserves_all s sealing js zs)
+
+-- what an earlier try left as it was, and counted
+module _ {B : Type 0} (g : Ghosts B) (s : Setting) (asked : List Question) (ws : List Waiting) (old begun : B) where
+  pub tried_honest : IsTried g s asked ws old begun → g.honest begun → g.honest old
+  tried_honest (at_once same) honest = subst g.honest same honest
+  tried_honest (anew rules tried reserving mid h commit refusal none) honest =
+      h.looks.honest (commit_honest g (map Reserved (map waiting_view tried)) mid begun reserving commit honest)
+
+  tried_stands : (b : History) → IsTried g s asked ws old begun → Stands g b old → Stands g b begun
+  tried_stands b (at_once same) stands = subst (Stands g b) (sym same) stands
+  tried_stands b (anew rules tried reserving mid h commit refusal none) stands =
+      commit_kept g (map Reserved (map waiting_view tried)) mid begun reserving b commit refusal
+      (h.looks.stands b stands)
+
+  tried_counted : IsTried g s asked ws old begun → (looks : List Outcome) × (call : Call)
+      × AllByRecursion (λ o. (o.adding ≡ Fine) × (o.sealing ≡ Fine)) looks
+      × (g.fault_count begun ≡ counted call (faults_along looks (g.fault_count old)))
+  tried_counted (at_once same) = ([], Fine, tt, ap g.fault_count same)
+  tried_counted (anew rules tried reserving mid h commit refusal none) = (
+    all_looks h.stamps,
+    reserving,
+    looks_uncommitted h.stamps,
+    commit_counted g (map Reserved (map waiting_view tried)) mid begun reserving commit
+        ∙ ap (counted reserving) h.counted,
+  )
+
+  -- where each fails one of the rules 1 to 9, there was none
+  tried_unasked : AllByRecursion (FailsUnasked s.file) asked → IsTried g s asked ws old begun → begun ≡ old
+  tried_unasked fails (at_once same) = same
+  tried_unasked fails (anew rules tried reserving mid h commit refusal none) =
+      let nothing = none_awaited s h.stamps h.rightly
+      (subst (AllByRecursion (FailsUnasked s.file)) (sym h.questions) fails) in
+      absurd (refusal (none_committed g (map Reserved (map waiting_view tried)) mid begun reserving
+      (ap (λ xs. map Reserved (map waiting_view xs)) (sym h.waits ∙ nothing)) commit).0)
+
+  -- its reservations may be there after all
+  tried_left : ShowLaws → (os : List Outcome) (answers : List Answer) (b : History) (left : g.Left)
+      → IsTried g s asked ws old begun → AreFit asked os → (ws ≡ [] → AreRejections answers) → g.honest begun
+      → Stands g b old → g.leaves begun left → MayBeLeftTogether g s asked os answers b old b left
+  tried_left shows os answers b left (at_once same) fits rejected honest stands r =
+      inl (refl, subst (λ v. g.leaves v left) same r)
+  tried_left shows os answers b left (anew rules tried reserving mid h (untried nothing fine is) refusal none) fits
+      rejected honest stands r = absurd (refusal fine)
+  tried_left shows os answers b left (anew rules tried reserving mid h (added some fine a) refusal none) fits rejected
+      honest stands r = absurd (refusal fine)
+  tried_left shows os answers b left (anew rules tried reserving mid h (refused some fault is storage a) refusal none)
+      fits rejected honest stands r =
+      let js = h.stamps in
+      let judged = h.judged (a.honest honest) b stands in
+      let d = with_waiting (waits_of js) b in
+      let es = effects_of s Fine js [] in
+      let outcomes = outcomes_of Fine js [] in
+      let have = have_effects s Fine js [] b judged in
+      let ends : with_reserved (all_reserved es) b ≡ d = ap (λ rs. with_reserved rs b) (reserves_all s Fine js []) in
+      let front = are_in_front (map Reserved (map waiting_view (waits_of js))) b in
+      let fit = subst (λ qs. AreFit qs os) (sym h.questions) fits in
+      let asked_some : questions_of js ≡ [] → ⊥ = λ nobody. some (ap (λ xs. map Reserved (map waiting_view xs))
+      (sym h.waits ∙ none_waits js nobody)) in
+      elim (a.crash honest left r) [
+        | inl earlier ↦ inl (refl, h.looks.leaves (a.honest honest) left earlier)
+        | inr adds ↦ inr (inr (subst (λ qs. IsDoubtedTogether g s qs os answers b b left) h.questions (record {
+          refused = rejected none;
+          history = d;
+          doubted = front.adds;
+          same = subst (ShowsSame d) front.is (shows_itself d);
+          cut = λ w.
+              let c = cut_once_reserved shows s (questions_of js) outcomes es b w stands.sound asked_some have in
+              record {
+                outcomes = map unsigned outcomes;
+                history = c.history;
+                told = c.told;
+                cut = c.cut;
+                sound = c.sound;
+                same = subst (λ x. ShowsSame x c.history) ends c.same;
+              };
+          signed = λ w. unsigned_alike (questions_of js) os outcomes fit (are_fit s Fine js [] h.rightly tt);
+          holds = subst (λ xs. g.holds left (with_waiting xs b)) (sym h.waits) (adds b (h.looks.stands b stands)
+              (fit_each (map Reserved (map waiting_view tried)) b
+              (subst (λ xs. IsSound (with_waiting xs b)) h.waits (judged_sound s js b judged stands.sound))));
+        })))
+      ]
 
 module _ {B S : Type 0} (g : Ghosts B) (signs : S → List ℕ → Result (List ℕ) SignerFault → S → Type 0) (count : S → ℕ)
     (shows : ShowLaws) (laws : TextLaws) (s : Setting) where
@@ -295,13 +373,6 @@ module _ {B S : Type 0} (g : Ghosts B) (signs : S → List ℕ → Result (List 
         holds = holds;
       }
 
-  -- a commit of nothing
-  none_committed : (entries : List Entry) (old new : B) (call : Call) → entries ≡ []
-      → IsCommitted g entries old new call → (call ≡ Fine) × (new ≡ old)
-  none_committed entries old new call none (untried is fine same) = (fine, same)
-  none_committed entries old new call none (added some fine a) = absurd (some none)
-  none_committed entries old new call none (refused some fault is storage a) = absurd (some none)
-
   -- where something was reserved, the store is open
   held_open : (ws : List Waiting) (mid held : B) → IsCommitted g (map Reserved (map waiting_view ws)) mid held Fine
       → g.honest held → ((ws ≡ []) × (held ≡ mid)) ⊎ g.is_open held
@@ -315,17 +386,17 @@ module _ {B S : Type 0} (g : Ghosts B) (signs : S → List ℕ → Result (List 
       (answers : List Answer) (b last : History) (old mid held new : B) (left : g.Left) → IsSound b → AreJudged s js b
       → AreOf s js zs → vs ≡ seals_of Fine zs → ((sealing ≡ Fine → ⊥) → AreRejections answers)
       → IsCommitted g (map Reserved (map waiting_view (waits_of js))) mid held Fine
-      → IsCommitted g (map seal_entry vs) held new sealing → g.honest new → (g.leaves mid left → g.leaves old left)
+      → IsCommitted g (map seal_entry vs) held new sealing → g.honest new
+      → (last ≡ b → g.leaves mid left
+      → MayBeLeftTogether g s (questions_of js) (outcomes_of sealing js zs) answers b old last left)
       → (waits_of js ≡ [] → last ≡ b) → Stands g (with_waiting (waits_of js) b) held → Stands g last new
       → ShowsSame (ends_in sealing js zs b) last → g.leaves new left
       → MayBeLeftTogether g s (questions_of js) (outcomes_of sealing js zs) answers b old last left
   left_after sealing js zs vs answers b last old mid held new left sound judged of are rejected reserving
       (untried none fine same) honest before still middle end shown r =
       elim (held_open (waits_of js) mid held reserving (subst g.honest same honest)) [
-        | inl nothing ↦ inl (
-          still nothing.0,
-          before (subst (λ x. g.leaves x left) nothing.1 (subst (λ x. g.leaves x left) same r)),
-        )
+        | inl nothing ↦ before (still nothing.0)
+            (subst (λ x. g.leaves x left) nothing.1 (subst (λ x. g.leaves x left) same r))
         | inr open_held ↦ inr (inl (end.settled honest (subst g.is_open (sym same) open_held) left r))
       ]
   left_after sealing js zs vs answers b last old mid held new left sound judged of are rejected reserving
@@ -343,7 +414,7 @@ module _ {B S : Type 0} (g : Ghosts B) (signs : S → List ℕ → Result (List 
       doubtful sealing tried js zs answers b last left sound judged of asked (rejected refusal) same holds in
       elim (a.crash honest left r) [
         | inl earlier ↦ elim (held_open (waits_of js) mid held reserving (a.honest honest)) [
-          | inl nothing ↦ inl (still nothing.0, before (subst (λ x. g.leaves x left) nothing.1 earlier))
+          | inl nothing ↦ before (still nothing.0) (subst (λ x. g.leaves x left) nothing.1 earlier)
           | inr open_held ↦ inr (inr (doubt sealing (subst (λ xs. g.holds left (with_sealed xs d)) (sym none)
               (middle.settled (a.honest honest) open_held left earlier))))
         ]
@@ -352,44 +423,54 @@ module _ {B S : Type 0} (g : Ghosts B) (signs : S → List ℕ → Result (List 
       ]
 
   -- judged, reserved and completed together, they are a run
-  whole : (js : List JudgedStamp) (zs : List Completion) (vs : List SealValue) (answers told completions : List Answer)
-      (sealing : Call) (old mid held : B) (x : S) (new : B) (y : S) → AreOf s js zs → Grow zs
-      → vs ≡ seals_of Fine zs → told ≡ replies_of zs → JudgesEach g s (questions_of js) (rules_of js) (waits_of js) old mid
-      → AllByRecursion (IsJudgedRightly s) js
-      → g.fault_count mid ≡ faults_along (all_looks js) (g.fault_count old)
-      → (g.honest mid → (b : History) → Stands g b old → AreJudged s js b)
+  whole : (js : List JudgedStamp) (zs : List Completion) (vs : List SealValue) (answers told : List Answer)
+      (sealing : Call) (old begun mid held : B) (x : S) (new : B) (y : S) → AreOf s js zs → Grow zs
+      → vs ≡ seals_of Fine zs → told ≡ replies_of zs → IsTried g s (questions_of js) (waits_of js) old begun
+      → JudgesEach g s (questions_of js) (rules_of js) (waits_of js) begun mid → AllByRecursion (IsJudgedRightly s) js
+      → g.fault_count mid ≡ faults_along (all_looks js) (g.fault_count begun)
+      → (g.honest mid → (b : History) → Stands g b begun → AreJudged s js b)
       → IsCommitted g (map Reserved (map waiting_view (waits_of js))) mid held Fine
       → SignsEach signs x (texts_of (pendings_in s (waits_of js))) (signings_of zs) y
       → count y ≡ count_after_each (signings_of zs) (count x) → IsCommitted g (map seal_entry vs) held new sealing
-      → IsToldBy sealing told completions → answers ≡ merged (rules_of js) completions
+      → answers ≡ merged (rules_of js) (replies_by sealing told)
       → ((b d : History) → Stands g b new → IsSound d → ShowsSame b d → Stands g d new)
       → IsAnsweredTogether g signs count s (questions_of js) answers old x new y
-  whole js zs vs answers told completions sealing old mid held x new y of grow are told_are judges rightly counts judged
-      reserving signed signer sealed by says tell =
+  whole js zs vs answers told sealing old begun mid held x new y of grow are told_are tried judges rightly counts judged
+      reserving signed signer sealed says tell =
+      let qs = questions_of js in
+      let ws = waits_of js in
       let outcomes = outcomes_of sealing js zs in
       let es = effects_of s sealing js zs in
+      let fits = are_fit s sealing js zs rightly grow in
+      let earlier = tried_counted g s qs ws old begun tried in
+      let n = g.fault_count old in
       record {
         outcomes = outcomes;
-        fits = are_fit s sealing js zs rightly grow;
-        looks = all_looks js;
-        uncommitted = looks_uncommitted js;
-        reserving = Fine;
+        fits = fits;
+        looks = earlier.0 ++ all_looks js;
+        uncommitted = all_both (λ o. (o.adding ≡ Fine) × (o.sealing ≡ Fine)) earlier.0 (all_looks js) earlier.2
+            (looks_uncommitted js);
+        reserving = earlier.1;
         sealing = sealing;
         counted = commit_counted g (map seal_entry vs) held new sealing sealed
             ∙ ap (counted sealing)
-            (commit_counted g (map Reserved (map waiting_view (waits_of js))) mid held Fine reserving ∙ counts);
+            (commit_counted g (map Reserved (map waiting_view (waits_of js))) mid held Fine reserving
+            ∙ (counts ∙ (ap (faults_along (all_looks js)) earlier.3
+            ∙ (swapped_along (all_looks js) earlier.1 (faults_along earlier.0 n)
+            ∙ ap (counted earlier.1) (sym (along_both earlier.0 (all_looks js) n))))));
         signer = signer ∙ signers_counted s sealing js zs (count x) of rightly;
         judged = subst (λ xs. AreRejectedUnasked s.file (questions_of js) xs outcomes) (sym says)
-            (rejected_unasked s sealing js zs completions rightly);
+            (rejected_unasked s sealing js zs (replies_by sealing told) rightly);
         unasked = λ fails.
             let none = none_awaited s js rightly fails in
             let texts = λ (ws : List Waiting). texts_of (pendings_in s ws) in
             let nothing : zs ≡ [] = map_none (λ z. z.pending) zs (of ∙ ap (pendings_in s) none) in
-            let kept = (none_committed (map Reserved (map waiting_view (waits_of js))) mid held Fine
+            let kept = (none_committed g (map Reserved (map waiting_view (waits_of js))) mid held Fine
             (ap (λ ws. map Reserved (map waiting_view ws)) none) reserving).1 in
-            let sealed_none = (none_committed (map seal_entry vs) held new sealing
+            let sealed_none = (none_committed g (map seal_entry vs) held new sealing
             (ap (map seal_entry) (are ∙ ap (seals_of Fine) nothing)) sealed).1 in (
-              subst (OnlyLooks g old) (sym (sealed_none ∙ kept)) judges.looks,
+              subst (λ v. OnlyLooks g v new) (tried_unasked g s qs ws old begun fails tried)
+                  (subst (OnlyLooks g begun) (sym (sealed_none ∙ kept)) judges.looks),
               subst (λ ws. SignsEach signs x (texts ws) [] y) none
                   (subst (λ zs. SignsEach signs x (texts (waits_of js)) (signings_of zs) y) nothing signed),
             );
@@ -397,29 +478,35 @@ module _ {B S : Type 0} (g : Ghosts B) (signs : S → List ℕ → Result (List 
             let honest_held = commit_honest g (map seal_entry vs) held new sealing sealed honest in
             let honest_mid = commit_honest g (map Reserved (map waiting_view (waits_of js))) mid held Fine reserving
             honest_held in
-            let are_judged = judged honest_mid b stands in
+            let stood = tried_stands g s qs ws old begun b tried stands in
+            let are_judged = judged honest_mid b stood in
             let have = have_effects s sealing js zs b are_judged in
             let moves = move_in_turn signs s sealing js zs x y signed in
             let run = reaches signs shows s (questions_of js) outcomes es b b x y (judges_itself b) stands.sound have
             moves in
             let d = with_waiting (waits_of js) b in
             let entries = map Reserved (map waiting_view (waits_of js)) in
-            let middle = commit_stands g entries mid held Fine b reserving refl (judges.looks.stands b stands)
+            let middle = commit_stands g entries mid held Fine b reserving refl (judges.looks.stands b stood)
             (fit_each entries b (judged_sound s js b are_judged stands.sound)) in
             let shown = subst (λ e. ShowsSame e run.history) (ends_whole s sealing js zs b of) run.same in
             let end = tell (ends_in sealing js zs b) run.history
             (stands_in sealing js zs vs b held new of are stands.sound are_judged sealed middle) run.sound shown in
-            let answered = says ∙ sym (says_by s sealing js zs told completions of told_are by) in
+            let answered = says ∙ sym (says_by s sealing js zs told of told_are) in
             let runs = subst (λ a. Runs signs s (stamps_for (questions_of js)) outcomes b x a run.history y)
             (sym answered) run.runs in
+            let rejected : replies_by sealing told ≡ [] → AreRejections answers = λ none.
+            subst AreRejections (sym (says ∙ ap (merged (rules_of js)) none)) (all_rejected (rules_of js)) in
             record {
               history = run.history;
               runs = runs;
               stands = end;
               left = λ left r. left_after sealing js zs vs answers b run.history old mid held new left stands.sound
-                  are_judged of are (λ refusal. subst AreRejections
-                  (sym (says ∙ ap (merged (rules_of js)) (none_told sealing told completions by refusal)))
-                  (all_rejected (rules_of js))) reserving sealed honest (judges.looks.leaves honest_mid left)
+                  are_judged of are (λ refusal. rejected (none_told sealing told refusal)) reserving sealed honest
+                  (λ same before. subst (λ d. MayBeLeftTogether g s qs outcomes answers b old d left) (sym same)
+                  (tried_left g s qs ws old begun shows outcomes answers b left tried fits
+                  (λ none. rejected (nothing_told sealing told (told_are ∙ ap replies_of
+                  (map_none (λ z. z.pending) zs (of ∙ ap (pendings_in s) none))))) (judges.looks.honest honest_mid)
+                  stands (judges.looks.leaves honest_mid left before)))
                   (λ none. run.still (reserves_all s sealing js zs ∙ ap (map waiting_view) none)) middle end shown r;
               promises = promised_along signs laws s (questions_of js) outcomes b x answers run.history y stands.sound
                   runs;
@@ -427,19 +514,20 @@ module _ {B S : Type 0} (g : Ghosts B) (signs : S → List ℕ → Result (List 
       }
 
   pub assembled : (asked : List Question) (rules : List (Option Rule)) (ws : List Waiting)
-      (ss : List (Result (List ℕ) SignerFault)) (vs : List SealValue) (answers told completions : List Answer)
-      (sealing : Call) (old mid held : B) (x : S) (new : B) (y : S) → JudgesEach g s asked rules ws old mid
+      (ss : List (Result (List ℕ) SignerFault)) (vs : List SealValue) (answers told : List Answer) (sealing : Call)
+      (old begun mid held : B) (x : S) (new : B) (y : S) → IsTried g s asked ws old begun
+      → JudgesEach g s asked rules ws begun mid
       → IsCommitted g (map Reserved (map waiting_view ws)) mid held Fine
       → SignsEach signs x (texts_of (pendings_in s ws)) ss y → count y ≡ count_after_each ss (count x)
       → AreWritten (pendings_in s ws) ss vs told → IsCommitted g (map seal_entry vs) held new sealing
-      → IsToldBy sealing told completions → answers ≡ merged rules completions
+      → answers ≡ merged rules (replies_by sealing told)
       → ((b d : History) → Stands g b new → IsSound d → ShowsSame b d → Stands g d new)
       → IsAnsweredTogether g signs count s asked answers old x new y
-  assembled asked rules ws ss vs answers told completions sealing old mid held x new y h reserving signed signer written
-      sealed by says tell =
+  assembled asked rules ws ss vs answers told sealing old begun mid held x new y tried h reserving signed signer written
+      sealed says tell =
       let js = h.stamps in
       let zs = written.completions in
-      let own : JudgesEach g s (questions_of js) (rules_of js) (waits_of js) old mid = record {
+      let own : JudgesEach g s (questions_of js) (rules_of js) (waits_of js) begun mid = record {
         stamps = js;
         questions = refl;
         rules_are = refl;
@@ -450,14 +538,15 @@ module _ {B S : Type 0} (g : Ghosts B) (signs : S → List ℕ → Result (List 
         judged = h.judged;
       } in
       subst (λ qs. IsAnsweredTogether g signs count s qs answers old x new y) h.questions
-      (whole js zs vs answers told completions sealing old mid held x new y
-      (written.pendings ∙ ap (pendings_in s) (sym h.waits)) written.grows written.seals_are written.says own h.rightly
-      h.counted h.judged
+      (whole js zs vs answers told sealing old begun mid held x new y
+      (written.pendings ∙ ap (pendings_in s) (sym h.waits)) written.grows written.seals_are written.says
+      (subst (λ qs. IsTried g s qs (waits_of js) old begun) (sym h.questions)
+      (subst (λ xs. IsTried g s asked xs old begun) (sym h.waits) tried)) own h.rightly h.counted h.judged
       (subst (λ xs. IsCommitted g (map Reserved (map waiting_view xs)) mid held Fine) (sym h.waits) reserving)
       (subst (λ xs. SignsEach signs x (texts_of (pendings_in s xs)) (signings_of zs) y) (sym h.waits)
       (subst (λ xs. SignsEach signs x (texts_of (pendings_in s ws)) xs y) (sym written.signed) signed))
-      (subst (λ xs. count y ≡ count_after_each xs (count x)) (sym written.signed) signer) sealed by
-      (says ∙ ap (λ rs. merged rs completions) (sym h.rules_are)) tell)
+      (subst (λ xs. count y ≡ count_after_each xs (count x)) (sym written.signed) signer) sealed
+      (says ∙ ap (λ rs. merged rs (replies_by sealing told)) (sym h.rules_are)) tell)
 
   -- what waits passes the rules 1 to 9
   passing_before : (v : Verdict) (a : Question) (asked : List Question) (ws : List Waiting)
@@ -490,179 +579,36 @@ module _ {B S : Type 0} (g : Ghosts B) (signs : S → List ℕ → Result (List 
   -- what went out are the texts of what they reserved
   pub sends_reserved : (sent : S → List (List ℕ) → S → Type 0) (asked : List Question) (rules : List (Option Rule))
       (ws : List Waiting) (ss : List (Result (List ℕ) SignerFault)) (vs : List SealValue) (told : List Answer)
-      (sealing : Call) (old mid held : B) (x : S) (new : B) (y : S) → JudgesEach g s asked rules ws old mid
+      (sealing : Call) (old begun mid held : B) (x : S) (new : B) (y : S) → IsTried g s asked ws old begun
+      → JudgesEach g s asked rules ws begun mid
       → IsCommitted g (map Reserved (map waiting_view ws)) mid held Fine → AreWritten (pendings_in s ws) ss vs told
       → IsCommitted g (map seal_entry vs) held new sealing → sent x (texts_for s (map waiting_view ws)) y
       → SendsReserved g sent s asked old x new y
-  sends_reserved sent asked rules ws ss vs told sealing old mid held x new y h reserving written sealed sends = record {
-    reserved = map waiting_view ws;
-    passing = all_passing asked rules ws old mid h;
-    sends = sends;
-    batch = λ honest b stands.
-        let js = h.stamps in
-        let zs = written.completions in
-        let of : AreOf s js zs = written.pendings ∙ ap (pendings_in s) (sym h.waits) in
-        let entries = map Reserved (map waiting_view (waits_of js)) in
-        let reserving_of = subst (λ xs. IsCommitted g (map Reserved (map waiting_view xs)) mid held Fine) (sym h.waits)
-        reserving in
-        let honest_mid = commit_honest g entries mid held Fine reserving_of
-        (commit_honest g (map seal_entry vs) held new sealing sealed honest) in
-        let judged = h.judged honest_mid b stands in
-        let middle = commit_stands g entries mid held Fine b reserving_of refl (h.looks.stands b stands)
-        (fit_each entries b (judged_sound s js b judged stands.sound)) in
-        record {
-          outcomes = outcomes_of sealing js zs;
-          effects = effects_of s sealing js zs;
-          have = subst (λ qs. HaveEffects s qs (outcomes_of sealing js zs) b (effects_of s sealing js zs)) h.questions
-              (have_effects s sealing js zs b judged);
-          reserves = reserves_all s sealing js zs ∙ ap (map waiting_view) h.waits;
-          stands = subst (λ d. Stands g d new) (sym (ends_whole s sealing js zs b of))
-              (stands_in sealing js zs vs b held new of written.seals_are stands.sound judged sealed middle);
-        };
-  }
-
-  -- and none did where their commit was refused
-  pub sends_nothing : (sent : S → List (List ℕ) → S → Type 0) (asked : List Question)
-      (rules rules' : List (Option Rule)) (ws : List Waiting) (reserving : Call) (old mid held new : B) (x : S) → JudgesEach g s asked rules ws old mid
-      → IsCommitted g (map Reserved (map waiting_view ws)) mid held reserving → (reserving ≡ Fine → ⊥)
-      → JudgesEach g s asked rules' [] held new → sent x [] x → SendsReserved g sent s asked old x new x
-  sends_nothing sent asked rules rules' ws reserving old mid held new x h commit refusal again sends = record {
-    reserved = [];
-    passing = all_passing asked rules' [] held new again;
-    sends = sends;
-    batch = λ honest b stands.
-        let ks = again.stamps in
-        let of : AreOf s ks [] = ap (pendings_in s) (sym again.waits) in
-        let entries = map Reserved (map waiting_view ws) in
-        let middle = commit_kept g entries mid held reserving b commit refusal (h.looks.stands b stands) in
-        let judged = again.judged honest b middle in
-        let whole = ends_whole s Fine ks [] b of ∙ ap (λ xs. with_waiting xs b) again.waits in
-        record {
-          outcomes = outcomes_of Fine ks [];
-          effects = effects_of s Fine ks [];
-          have = subst (λ qs. HaveEffects s qs (outcomes_of Fine ks []) b (effects_of s Fine ks [])) again.questions
-              (have_effects s Fine ks [] b judged);
-          reserves = reserves_all s Fine ks [] ∙ ap (map waiting_view) again.waits;
-          stands = subst (λ d. Stands g d new) (sym whole) (again.looks.stands b middle);
-        };
-  }
-
-  -- the commit of the reservations was refused, and each is judged anew: nothing is added
-  unreserved_doubt : (js ks : List JudgedStamp) (answers : List Answer) (b : History) (left : g.Left) → IsSound b
-      → AreJudged s js b → questions_of ks ≡ questions_of js → (questions_of js ≡ [] → ⊥) → AreRejections answers
-      → g.holds left (with_waiting (waits_of js) b)
-      → IsDoubtedTogether g s (questions_of js) (outcomes_of Fine ks []) answers b b left
-  unreserved_doubt js ks answers b left sound judged same some rejected holds =
-      let d = with_waiting (waits_of js) b in
-      let front = are_in_front (map Reserved (map waiting_view (waits_of js))) b in
-      let es = effects_of s Fine js [] in
-      let outcomes = outcomes_of Fine js [] in
-      let ends : with_reserved (all_reserved es) b ≡ d = ap (λ rs. with_reserved rs b) (reserves_all s Fine js []) in
-      record {
-        refused = rejected;
-        history = d;
-        doubted = front.adds;
-        same = subst (ShowsSame d) front.is (shows_itself d);
-        cut = λ w.
-            let c = cut_once_reserved shows s (questions_of js) outcomes es b w sound some
-            (have_effects s Fine js [] b judged) in
+  sends_reserved sent asked rules ws ss vs told sealing old begun mid held x new y tried h reserving written sealed
+      sends = record {
+        reserved = map waiting_view ws;
+        passing = all_passing asked rules ws begun mid h;
+        sends = sends;
+        batch = λ honest b stands.
+            let js = h.stamps in
+            let zs = written.completions in
+            let of : AreOf s js zs = written.pendings ∙ ap (pendings_in s) (sym h.waits) in
+            let entries = map Reserved (map waiting_view (waits_of js)) in
+            let reserving_of = subst (λ xs. IsCommitted g (map Reserved (map waiting_view xs)) mid held Fine)
+            (sym h.waits) reserving in
+            let honest_mid = commit_honest g entries mid held Fine reserving_of
+            (commit_honest g (map seal_entry vs) held new sealing sealed honest) in
+            let stood = tried_stands g s asked ws old begun b tried stands in
+            let judged = h.judged honest_mid b stood in
+            let middle = commit_stands g entries mid held Fine b reserving_of refl (h.looks.stands b stood)
+            (fit_each entries b (judged_sound s js b judged stands.sound)) in
             record {
-              outcomes = map unsigned outcomes;
-              history = c.history;
-              told = c.told;
-              cut = c.cut;
-              sound = c.sound;
-              same = subst (λ x. ShowsSame x c.history) ends c.same;
+              outcomes = outcomes_of sealing js zs;
+              effects = effects_of s sealing js zs;
+              have = subst (λ qs. HaveEffects s qs (outcomes_of sealing js zs) b (effects_of s sealing js zs)) h.questions
+                  (have_effects s sealing js zs b judged);
+              reserves = reserves_all s sealing js zs ∙ ap (map waiting_view) h.waits;
+              stands = subst (λ d. Stands g d new) (sym (ends_whole s sealing js zs b of))
+                  (stands_in sealing js zs vs b held new of written.seals_are stands.sound judged sealed middle);
             };
-        signed = λ w. unsigned_alike ks js [] [] Fine Fine same;
-        holds = holds;
       }
-
-  left_unreserved : (js ks : List JudgedStamp) (ws : List Waiting) (reserving : Call) (answers : List Answer)
-      (b : History) (old mid held : B) (left : g.Left) → IsSound b → waits_of js ≡ ws → AreJudged s js b
-      → questions_of ks ≡ questions_of js → AreRejections answers
-      → IsCommitted g (map Reserved (map waiting_view ws)) mid held reserving → (reserving ≡ Fine → ⊥) → g.honest held
-      → (g.leaves mid left → g.leaves old left) → Stands g b mid → g.leaves held left
-      → MayBeLeftTogether g s (questions_of ks) (outcomes_of Fine ks []) answers b old b left
-  left_unreserved js ks ws reserving answers b old mid held left sound waits judged same rejected (untried none fine is)
-      refusal honest before stands r = absurd (refusal fine)
-  left_unreserved js ks ws reserving answers b old mid held left sound waits judged same rejected (added some fine a)
-      refusal honest before stands r = absurd (refusal fine)
-  left_unreserved js ks ws reserving answers b old mid held left sound waits judged same rejected
-      (refused some fault is storage a) refusal honest before stands r =
-      elim (a.crash honest left r) [
-        | inl earlier ↦ inl (refl, before earlier)
-        | inr adds ↦
-            let entries = map Reserved (map waiting_view ws) in
-            let sound_held = subst (λ xs. IsSound (with_waiting xs b)) waits (judged_sound s js b judged sound) in
-            let asked : questions_of js ≡ [] → ⊥ = λ nobody.
-            some (ap (λ xs. map Reserved (map waiting_view xs))
-            (sym waits ∙ none_waits js nobody)) in
-            inr (inr (subst (λ qs. IsDoubtedTogether g s qs (outcomes_of Fine ks []) answers b b left) (sym same)
-            (unreserved_doubt js ks answers b left sound judged same asked rejected
-            (subst (λ xs. g.holds left (with_waiting xs b)) (sym waits) (adds b stands (fit_each entries b sound_held))))))
-      ]
-
-  pub unreserved : (asked : List Question) (rules rules' : List (Option Rule)) (ws : List Waiting)
-      (answers : List Answer) (reserving : Call) (old mid held new : B) (x : S) → JudgesEach g s asked rules ws old mid
-      → IsCommitted g (map Reserved (map waiting_view ws)) mid held reserving → (reserving ≡ Fine → ⊥)
-      → JudgesEach g s asked rules' [] held new → answers ≡ merged rules' []
-      → IsAnsweredTogether g signs count s asked answers old x new x
-  unreserved asked rules rules' ws answers reserving old mid held new x h commit refusal again says =
-      let js = h.stamps in
-      let ks = again.stamps in
-      let none : AreOf s ks [] = ap (pendings_in s) (sym again.waits) in
-      let outcomes = outcomes_of Fine ks [] in
-      let es = effects_of s Fine ks [] in
-      let n = g.fault_count old in
-      let same : questions_of ks ≡ questions_of js = again.questions ∙ sym h.questions in
-      let entries = map Reserved (map waiting_view ws) in
-      let by_rules : answers ≡ merged (rules_of ks) [] = says ∙ ap (λ rs. merged rs []) (sym again.rules_are) in
-      let rejected : AreRejections answers = subst AreRejections (sym by_rules) (all_rejected (rules_of ks)) in
-      subst (λ qs. IsAnsweredTogether g signs count s qs answers old x new x) again.questions
-      (record {
-        outcomes = outcomes;
-        fits = are_fit s Fine ks [] again.rightly tt;
-        looks = all_looks js ++ all_looks ks;
-        uncommitted = all_both (λ o. (o.adding ≡ Fine) × (o.sealing ≡ Fine)) (all_looks js) (all_looks ks)
-            (looks_uncommitted js) (looks_uncommitted ks);
-        reserving = reserving;
-        sealing = Fine;
-        counted = again.counted
-            ∙ (ap (faults_along (all_looks ks)) (commit_counted g entries mid held reserving commit
-            ∙ ap (counted reserving) h.counted)
-            ∙ (swapped_along (all_looks ks) reserving (faults_along (all_looks js) n)
-            ∙ ap (counted reserving) (sym (along_both (all_looks js) (all_looks ks) n))));
-        signer = signers_counted s Fine ks [] (count x) none again.rightly;
-        judged = subst (λ xs. AreRejectedUnasked s.file (questions_of ks) xs outcomes) (sym by_rules)
-            (rejected_unasked s Fine ks [] [] again.rightly);
-        unasked = λ fails.
-            let none = none_awaited s js h.rightly (subst (AllByRecursion (FailsUnasked s.file)) same fails) in
-            absurd (refusal (none_committed entries mid held reserving
-            (ap (λ xs. map Reserved (map waiting_view xs)) (sym h.waits ∙ none)) commit).0);
-        run = λ honest b stands.
-            let honest_held = again.looks.honest honest in
-            let honest_mid = commit_honest g entries mid held reserving commit honest_held in
-            let middle = commit_kept g entries mid held reserving b commit refusal (h.looks.stands b stands) in
-            let judged = again.judged honest b middle in
-            let run = reaches signs shows s (questions_of ks) outcomes es b b x x (judges_itself b) stands.sound
-            (have_effects s Fine ks [] b judged) (move_in_turn signs s Fine ks [] x x
-            (subst (λ xs. SignsEach signs x (texts_of (pendings_in s xs)) [] x) (sym again.waits) refl)) in
-            let still = run.still (reserves_all s Fine ks [] ∙ ap (map waiting_view) again.waits) in
-            let answered = by_rules ∙ sym (says_all s ks [] none) in
-            let runs = subst (λ a. Runs signs s (stamps_for (questions_of ks)) outcomes b x a run.history x)
-            (sym answered) run.runs in
-            record {
-              history = run.history;
-              runs = runs;
-              stands = subst (λ d. Stands g d new) (sym still) (again.looks.stands b middle);
-              left = λ left r. subst (λ d. MayBeLeftTogether g s (questions_of ks) outcomes answers b old d left)
-                  (sym still)
-                  (left_unreserved js ks ws reserving answers b old mid held left stands.sound h.waits
-                  (h.judged honest_mid b stands) same rejected commit refusal honest_held
-                  (h.looks.leaves honest_mid left)
-                  (h.looks.stands b stands) (again.looks.leaves honest left r));
-              promises = promised_along signs laws s (questions_of ks) outcomes b x answers run.history x stands.sound
-                  runs;
-            };
-      })

@@ -1,5 +1,5 @@
 -- Stamps of a batch are judged one after the other.
-use Rattle.std.proofs.Common.{◌≡◌, ◌<◌, ◌≤◌, nat_le, cond, ℕ, ◌+◌, List, [], ◌∷◌, ◌++◌, length, Option, Some, None}
+use Rattle.std.proofs.Common.{◌≡◌, ◌<◌, ◌≤◌, nat_le, cond, ℕ, ℤ, ◌+◌, List, [], ◌∷◌, ◌++◌, length, Option, Some, None}
 use Rattle.std.proofs.Common.{Ok, Err, Bool, true, false, inl, inr, refl, sym, ap, ◌∙◌, subst, take, get_or, arith}
 use Rattle.std.specs.List.{AllByRecursion}
 use Rattle.std.specs.Prelude.{Result, IfOk, IfErr}
@@ -19,7 +19,7 @@ use Rattle.desk.specs.Calls.{IsSomebodys, finding_by, refused, why_of}
 use Rattle.desk.specs.Command.{Setting, Begin}
 use Rattle.desk.specs.Effects.{name_of, no_number, rule_by}
 use Rattle.desk.specs.Findings.{StampPlan, HoldsUnasked, Unanswered, Allowed, Finds}
-use Rattle.desk.specs.Fit.{IsFit, AreGrowths, counting_for}
+use Rattle.desk.specs.Fit.{IsFit}
 use Rattle.desk.specs.Outcome.{Call, Fine, OutOfMemory, Failed, Outcome, Cause, OfMemory, OfStore, cause_of}
 use Rattle.desk.specs.Outcome.{Refusal, ByRule, ByCause, first_cause, all_fine, faults_after}
 use Rattle.desk.specs.Texts.{tst_of, reservation_of}
@@ -173,65 +173,33 @@ asked_more asked i item within is =
     ∙ (sym (map-append question_view (take i asked) (get_or asked i item ∷ []))
     ∙ sym (ap questions_view (take_more asked i item within)))
 
--- the calls that a stamp makes are those of its beginning, and of its end
-pub fits_begin : (account : Option AccountValue) (a : Question) (o : Outcome) → a.account ≡ account
-    → o ≡ record (all_fine (Ok [])) {
-      looking = o.looking;
-      counting = o.counting;
-      growing = o.growing;
-      adding = o.adding;
-    }
-    → (account ≡ None → o.counting ≡ Fine) → AreGrowths o → IsFit (Begin a.account a.reading a.octets) o
-fits_begin None a o is made counting grow = (
-  made ∙ (ap (λ x. record (all_fine (Ok [])) {
-    looking = o.looking;
-    counting = x;
-    growing = o.growing;
-    adding = o.adding;
-  })
-      (counting refl)
-      ∙ ap (λ x. record (all_fine (Ok [])) {
-        looking = o.looking;
-        counting = counting_for x o.counting;
-        growing = o.growing;
-        adding = o.adding;
-      }) (sym is)),
-  grow,
-)
-fits_begin (Some account) a o is made counting grow = (
-  made ∙ ap (λ x. record (all_fine (Ok [])) {
-    looking = o.looking;
-    counting = counting_for x o.counting;
-    growing = o.growing;
-    adding = o.adding;
-  }) (sym is),
-  grow,
-)
+-- the calls that a beginning makes, where its reservation was answered so
+pub begin_calls : (account : Option AccountValue) (reading : ℤ) (octets : List ℕ) (reserving : Call)
+    → IsFit (Begin account reading octets) (record (all_fine (Ok [])) { adding = reserving })
+begin_calls None reading octets reserving = (refl, (tt, tt))
+begin_calls (Some a) reading octets reserving = (refl, (tt, tt))
 
 -- what refuses the judging
-judging_fits : (a : Question) (r : StampRefusal) → IsOfJudging r → IsSomebodys a.account r
-    → IsFit (Begin a.account a.reading a.octets) (refused r) × ((refused r).signing ≡ Ok [])
+judging_fits : (account : Option AccountValue) (reading : ℤ) (octets : List ℕ) (r : StampRefusal) → IsOfJudging r
+    → IsSomebodys account r → IsFit (Begin account reading octets) (refused r) × ((refused r).signing ≡ Ok [])
     × ((n : ℕ) → faults_after (refused r) n ≡ faults_after (record (refused r) { adding = Fine; sealing = Fine }) n)
-judging_fits a (refusal.Fails rule) of somebody =
-    (fits_begin a.account a (all_fine (Ok [])) refl refl (λ none. refl) (tt, tt), refl, λ n. refl)
-judging_fits a (refusal.Looking f) of somebody =
-    (fits_begin a.account a (refused (refusal.Looking f)) refl refl (λ none. refl) (tt, tt), refl, λ n. refl)
-judging_fits a (refusal.Counting f) of somebody = (
-  fits_begin a.account a (refused (refusal.Counting f)) refl refl (λ none. absurd (somebody none)) (tt, tt),
-  refl,
-  λ n. refl,
-)
-judging_fits a refusal.Exhausted of somebody =
-    (fits_begin a.account a (refused refusal.Exhausted) refl refl (λ none. refl) (tt, tt), refl, λ n. refl)
-judging_fits a refusal.OutOfMemory of somebody =
-    (fits_begin a.account a (refused refusal.OutOfMemory) refl refl (λ none. refl) (tt, tt), refl, λ n. refl)
-judging_fits a (refusal.Adding f) of somebody =
+judging_fits None reading octets (refusal.Fails rule) of somebody = ((refl, (tt, tt)), refl, λ n. refl)
+judging_fits (Some a) reading octets (refusal.Fails rule) of somebody = ((refl, (tt, tt)), refl, λ n. refl)
+judging_fits None reading octets (refusal.Looking f) of somebody = ((refl, (tt, tt)), refl, λ n. refl)
+judging_fits (Some a) reading octets (refusal.Looking f) of somebody = ((refl, (tt, tt)), refl, λ n. refl)
+judging_fits None reading octets (refusal.Counting f) of somebody = absurd (somebody refl)
+judging_fits (Some a) reading octets (refusal.Counting f) of somebody = ((refl, (tt, tt)), refl, λ n. refl)
+judging_fits None reading octets refusal.Exhausted of somebody = ((refl, (tt, tt)), refl, λ n. refl)
+judging_fits (Some a) reading octets refusal.Exhausted of somebody = ((refl, (tt, tt)), refl, λ n. refl)
+judging_fits None reading octets refusal.OutOfMemory of somebody = ((refl, (tt, tt)), refl, λ n. refl)
+judging_fits (Some a) reading octets refusal.OutOfMemory of somebody = ((refl, (tt, tt)), refl, λ n. refl)
+judging_fits account reading octets (refusal.Adding f) of somebody =
     absurd (elim of [ inl x ↦ x | inr x ↦ elim x [ inl e ↦ cc | inr e ↦ cc ] ])
-judging_fits a (refusal.Signing f) of somebody =
+judging_fits account reading octets (refusal.Signing f) of somebody =
     absurd (elim of [ inl x ↦ x | inr x ↦ elim x [ inl e ↦ cc | inr e ↦ cc ] ])
-judging_fits a refusal.OutOfReplyMemory of somebody =
+judging_fits account reading octets refusal.OutOfReplyMemory of somebody =
     absurd (elim of [ inl x ↦ x | inr x ↦ elim x [ inl e ↦ cc | inr e ↦ cc ] ])
-judging_fits a (refusal.Sealing f) of somebody =
+judging_fits account reading octets (refusal.Sealing f) of somebody =
     absurd (elim of [ inl x ↦ x | inr x ↦ elim x [ inl e ↦ cc | inr e ↦ cc ] ])
 
 -- nothing is reserved for it
@@ -243,7 +211,7 @@ pub judged_err : {B : Type 0} (g : Ghosts B) (s : Setting) (a : Question) (ws : 
     → ((rule : Rule) → IsFirstFailing (HoldsUnasked s.file a.account a.octets) rule
     → (r ≡ refusal.Fails rule) × (new ≡ old)) → JudgesAs g s a ws (Err r) old new
 judged_err g s a ws r old new of somebody looks counted judged unasked =
-    let fine = judging_fits a r of somebody in
+    let fine = judging_fits a.account a.reading a.octets r of somebody in
     record {
       judges = record {
         rightly = record {
@@ -307,7 +275,7 @@ pub judged_planned : {B : Type 0} (g : Ghosts B) (s : Setting) (a : Question) (w
 judged_planned g s a ws plan last (Ok w) old new h unwritten looks counted finds is_last unasked = record {
   judges = record {
     rightly = record {
-      fits = fits_begin a.account a (all_fine (Ok [])) refl refl (λ none. refl) (tt, tt);
+      fits = begin_calls a.account a.reading a.octets Fine;
       unsigned = refl;
       text = h.text;
       unasked = λ rule first. absurd (unasked rule first);
@@ -343,7 +311,7 @@ judged_refused g s a w reserving cause old new why h =
     let o = record (all_fine (Ok [])) { adding = reserving } in
     record {
       rightly = record {
-        fits = fits_begin a.account a o refl refl (λ none. refl) (tt, tt);
+        fits = begin_calls a.account a.reading a.octets reserving;
         unsigned = refl;
         text = tt;
         unasked = λ rule first. absurd (let waits : None ≡ Some rule = h.rightly.unasked rule first in cc);

@@ -38,7 +38,7 @@ use Rattle.desk.specs.declared.refusal.StampRefusal.TheVariants as refusal
 use Rattle.desk.specs.Wholes.{answer_by}
 use Rattle.desk.specs.declared.fault.Fault.TheVariants as fault
 use Rattle.desk.specs.declared.waiting_stamp.Waiting.{Waiting}
-use Rattle.desk.proofs.BatchJudgement.{waiting_fits, left_number, judged_refused}
+use Rattle.desk.proofs.BatchJudgement.{begin_calls, waiting_fits, left_number, judged_refused}
 use Rattle.desk.proofs.Committed.{counted_as}
 use Rattle.desk.proofs.Fits.{none_failed, is_refused}
 use Rattle.desk.proofs.Judgement.{same_cause}
@@ -70,6 +70,17 @@ pub record Tells {B : Type 0} (g : Ghosts B) (c : Command) (u : Purpose) : Type 
   pub blames : (cause : Cause) (o : Outcome) (old new : B) → IsBlamedFor g c o old new (fault_of cause)
       → IsBlamed g c o old new (u.refuses cause)
   pub fails : (rule : Rule) (o : Outcome) (old new : B) → IsBlamed g c o old new (u.rejects rule)
+
+-- where the signature is made elsewhere
+pub tells_parts : {B : Type 0} (g : Ghosts B) (c : Command) → Tells g c for_parts
+tells_parts g c = record {
+  opens = λ n token new open_yet. open_yet;
+  refuses = λ cause new. tt;
+  rejects = λ rule new. tt;
+  grants = λ n token o old new. tt;
+  blames = λ cause o old new blamed. blamed;
+  fails = λ rule o old new. tt;
+}
 
 -- A command begins with a stamp of this purpose, from each history of which P holds.
 pub record BeginsWith {B : Type 0} (g : Ghosts B) (s : Setting) (c : Command) (u : Purpose) (a : Question)
@@ -181,12 +192,6 @@ refusal_blamed g s c u a r old new tells excused (inr adding) h =
     (call_blamed g c (λ call. record (all_fine (Ok [])) { adding = call }) adding.0 old new adding.2
     (none_failed _ tt tt tt tt tt tt tt tt) (inl (inr (inr (inr (inr (inl refl))))))))
 
--- the calls that a beginning makes
-pub begin_calls : (account : Option AccountValue) (reading : ℤ) (octets : List ℕ)
-    → IsFit (Begin account reading octets) (all_fine (Ok []))
-begin_calls None reading octets = (refl, (tt, tt))
-begin_calls (Some a) reading octets = (refl, (tt, tt))
-
 abbrev pub begun_by : ReservationValue → PendingValue → Effect
 begun_by r p = record { adds = Reserved r ∷ []; asks = None; says = Begun p }
 
@@ -217,14 +222,7 @@ begins_alone g s a = record {
   calls = λ o fits. fits;
   settled = λ why o b holds fits h. begin_settled s a why o b h;
   reserved = λ b r p holds h. (begun_by r p, has_begun s a b r p h, λ call refused. one_in_doubt call (Reserved r));
-  tells = record {
-    opens = λ n token new open_yet. open_yet;
-    refuses = λ cause new. tt;
-    rejects = λ rule new. tt;
-    grants = λ n token o old new. tt;
-    blames = λ cause o old new blamed. blamed;
-    fails = λ rule o old new. tt;
-  };
+  tells = tells_parts g (Begin a.account a.reading a.octets);
   excused = λ old new e. e;
 }
 
@@ -234,7 +232,7 @@ pub begins_steps : {B : Type 0} (g : Ghosts B) (s : Setting) (a : Question)
     → StepsBy g no_signer s (Begin a.account a.reading a.octets) (outcome_of result) old new
     (answer_by for_parts (ended_as (λ p. Begun p) result))
 begins_steps g s a (Ok p) old new h = record {
-  fits = begin_calls a.account a.reading a.octets;
+  fits = begin_calls a.account a.reading a.octets Fine;
   counted = h.counted;
   signer = tt;
   blames = tt;

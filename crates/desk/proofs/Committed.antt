@@ -12,8 +12,8 @@ use Rattle.book.specs.Stands.{Stands}
 use Rattle.desk.specs.Calls.{call_of}
 use Rattle.desk.specs.Command.{Answer}
 use Rattle.desk.specs.Commits.{call_for, IsCommitted, untried, added, refused}
-use Rattle.desk.specs.Outcome.{Call, Fine, counted}
-use Rattle.desk.specs.Verdicts.{IsToldBy}
+use Rattle.desk.specs.Outcome.{Call, Fine, OutOfMemory, Failed, counted}
+use Rattle.desk.specs.Verdicts.{replies_by}
 use Rattle.std.specs.Result.{is_err}
 use Rattle.desk.proofs.Fits.{is_refused}
 
@@ -47,16 +47,18 @@ unmet g entries old fault some is =
       faults = refl;
     }))
 
--- what is told of those that waited
-pub told_of : (sealed : Result (Unit {0}) StoreFault) (replies told : List Answer) → IfErr sealed IsOfStorage
-    → (is_err sealed ≡ false → told ≡ replies) → (is_err sealed ≡ true → told ≡ [])
-    → IsToldBy (call_for sealed) replies told
-told_of (Ok done) replies told storage fine none = fine refl
-told_of (Err store.Memory) replies told storage fine none = none refl
-told_of (Err store.Database) replies told storage fine none = none refl
-told_of (Err store.NotOurs) replies told storage fine none = absurd (is_refused store.NotOurs storage refl)
-told_of (Err store.Full) replies told storage fine none = absurd (is_refused store.Full storage refl)
-told_of (Err store.Backwards) replies told storage fine none = absurd (is_refused store.Backwards storage refl)
+-- none are told that waited where it was refused
+pub none_told : (call : Call) (replies : List Answer) → (call ≡ Fine → ⊥) → replies_by call replies ≡ []
+none_told Fine replies refusal = absurd (refusal refl)
+none_told OutOfMemory replies refusal = refl
+none_told Failed replies refusal = refl
+
+-- a commit of nothing
+pub none_committed : {B : Type 0} (g : Ghosts B) (entries : List Entry) (old new : B) (call : Call) → entries ≡ []
+    → IsCommitted g entries old new call → (call ≡ Fine) × (new ≡ old)
+none_committed g entries old new call none (untried is fine same) = (fine, same)
+none_committed g entries old new call none (added some fine a) = absurd (some none)
+none_committed g entries old new call none (refused some fault is storage a) = absurd (some none)
 
 -- what a commit does
 pub commit_honest : {B : Type 0} (g : Ghosts B) (entries : List Entry) (old new : B) (call : Call)

@@ -30,7 +30,7 @@ use Rattle.desk.specs.declared.refusal.StampRefusal.TheVariants as refusal
 use Rattle.desk.proofs.Committed.{counted_as}
 use Rattle.desk.proofs.Fits.{is_refused}
 use Rattle.desk.proofs.Judgement.{same_cause}
-use Rattle.desk.proofs.Beginnings.{Tells}
+use Rattle.desk.proofs.Beginnings.{tells_parts}
 use Rattle.desk.proofs.Stamps.{tells_opened, tells_blamed, met_all}
 
 -- what waits may be sealed
@@ -126,19 +126,7 @@ unstored g k p signature serial token old new f number is storage a =
     (subst (λ x. Appends {A = Unit {0}} g (k.adds p.serial x ∷ []) old new (Err f)) is
     (subst (λ n. Appends {A = Unit {0}} g (k.adds n token ∷ []) old new (Err f)) number a))
 
--- a finish is the end of a stamp whose signature is handed in
-tells_finish : {B : Type 0} (g : Ghosts B) (p : PendingValue) (signature : List ℕ)
-    → Tells g (Finish p signature) for_parts
-tells_finish g p signature = record {
-  opens = λ n token new open_yet. open_yet;
-  refuses = λ cause new. tt;
-  rejects = λ rule new. tt;
-  grants = λ n token o old new. tt;
-  blames = λ cause o old new blamed. blamed;
-  fails = λ rule o old new. tt;
-}
-
--- what it adds and says
+-- a finish is the end of a stamp whose signature is handed in: what it adds and says
 finish_is : (p : PendingValue) (signature : List ℕ) (why : Option Cause)
     → ((unless why (finish_effect p signature)).adds ≡ added in_seal p.serial (token_or (token_with p signature) why))
     × (((unless why (finish_effect p signature)).asks ≡ None)
@@ -190,7 +178,7 @@ finishes_as : {B : Type 0} (g : Ghosts B) (s : Setting) (p : PendingValue) (sign
 finishes_as g s p signature o old new answer fit ends =
     let c = Finish p signature in
     let end = ending p (Ok signature) o in
-    let tells = tells_finish g p signature in
+    let tells = tells_parts g c in
     let is = finish_is p signature (no_seal o) in
     subst (λ a. StepsBy g no_signer s c o old new (answer_by for_parts a)) (sym ends.says)
     (record {

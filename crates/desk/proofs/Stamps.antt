@@ -29,8 +29,8 @@ use Rattle.desk.specs.Wholes.{joined, token_or, ending, added, ended, answer_by,
 use Rattle.desk.specs.Wholes.{Completes, CompletesBegun}
 use Rattle.desk.specs.declared.refusal.StampRefusal.{StampRefusal}
 use Rattle.desk.specs.declared.unsigned_token.Written.{Written}
-use Rattle.desk.proofs.BatchJudgement.{left_number}
-use Rattle.desk.proofs.Beginnings.{Tells, BeginsWith, unanswered_found, decided, refusal_blamed, begin_calls}
+use Rattle.desk.proofs.BatchJudgement.{begin_calls, left_number}
+use Rattle.desk.proofs.Beginnings.{Tells, BeginsWith, unanswered_found, decided, refusal_blamed}
 use Rattle.desk.proofs.Fits.{none_failed}
 use Rattle.desk.proofs.Views.{fits_seal}
 
@@ -174,7 +174,7 @@ module _ {B X : Type 0} (g : Ghosts B) (signs : X → List ℕ → Result (List 
       subst (λ told. StepsWhere g (with_signer signs count x y) s c P (joined o signing finished) old new
       (answer_by u told)) (sym done.ends.says)
       (record {
-        fits = is.calls o finished signing (begin_calls a.account a.reading a.octets) done.ends.grows;
+        fits = is.calls o finished signing (begin_calls a.account a.reading a.octets Fine) done.ends.grows;
         counted = done.ends.counted ∙ ap (λ n. counted finished.sealing (counted finished.wrapping n)) begun.counted;
         signer = done.signer;
         blames = tells_blamed g c u is.tells p.serial (joined o signing finished) old new end

@@ -10,23 +10,29 @@ use Rattle.desk.specs.Command.{Setting, Answer}
 use Rattle.desk.specs.Commits.{IsCommitted}
 use Rattle.desk.specs.Completions.{AreWritten}
 use Rattle.desk.specs.Outcome.{Call, Fine}
-use Rattle.desk.specs.Verdicts.{JudgesEach, IsToldBy, merged}
+use Rattle.desk.specs.Verdicts.{JudgesEach, replies_by, merged}
 use Rattle.desk.specs.WaitingStamps.{waiting_view, pendings_in}
 use Rattle.desk.specs.declared.pending_batch.PendingBatch.{PendingBatch}
 use Rattle.desk.specs.declared.waiting_stamp.Waiting.{Waiting}
 
--- Stamps are begun together: a rule for each that is rejected, and what waits of the others. Each is judged by the
--- history with the reservations of those before it.
-pub data AreBegun {B : Type 0} (g : Ghosts B) (s : Setting) (asked : List Question) (rules : List (Option Rule))
+-- An earlier try to reserve all of them: there was none, or its commit was refused, and none waits now.
+pub data IsTried {B : Type 0} (g : Ghosts B) (s : Setting) (asked : List Question) (ws : List Waiting) (old new : B)
+    : Type 0 where
+  at_once : new ≡ old → IsTried g s asked ws old new
+  anew : (rules : List (Option Rule)) (tried : List Waiting) (reserving : Call) (judged : B)
+      → JudgesEach g s asked rules tried old judged
+      → IsCommitted g (map Reserved (map waiting_view tried)) judged new reserving → (reserving ≡ Fine → ⊥) → ws ≡ []
+      → IsTried g s asked ws old new
+
+-- Stamps are begun together: a rule for each that is rejected, and what waits of the others, reserved in one commit.
+-- Each is judged by the history with the reservations of those before it.
+pub record AreBegun {B : Type 0} (g : Ghosts B) (s : Setting) (asked : List Question) (rules : List (Option Rule))
     (ws : List Waiting) (old new : B) : Type 0 where
-  -- All that waits is reserved, in one commit.
-  reserved : (judged : B) → JudgesEach g s asked rules ws old judged
-      → IsCommitted g (map Reserved (map waiting_view ws)) judged new Fine → AreBegun g s asked rules ws old new
-  -- That commit was refused: each is judged anew, by the history as it stayed, and none waits.
-  unreserved : (first : List (Option Rule)) (tried : List Waiting) (reserving : Call) (judged held : B)
-      → JudgesEach g s asked first tried old judged
-      → IsCommitted g (map Reserved (map waiting_view tried)) judged held reserving → (reserving ≡ Fine → ⊥)
-      → JudgesEach g s asked rules [] held new → ws ≡ [] → AreBegun g s asked rules ws old new
+  pub begun : B
+  pub tried : IsTried g s asked ws old begun
+  pub judged : B
+  pub judges : JudgesEach g s asked rules ws begun judged
+  pub reserved : IsCommitted g (map Reserved (map waiting_view ws)) judged new Fine
 
 -- They are finished together: the tokens of all that were signed are sealed, in one commit, and each is answered.
 pub record AreFinished {B : Type 0} (g : Ghosts B) (s : Setting) (rules : List (Option Rule)) (ws : List Waiting)
@@ -37,7 +43,7 @@ pub record AreFinished {B : Type 0} (g : Ghosts B) (s : Setting) (rules : List (
   pub sealing : Call
   pub sealed : IsCommitted g (map seal_entry seals) old new sealing
   pub told : List Answer
-  pub tells : IsToldBy sealing replies told
+  pub tells : told ≡ replies_by sealing replies
   pub says : answers ≡ merged rules told
 
 -- an empty list with room for so many

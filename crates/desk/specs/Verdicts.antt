@@ -138,7 +138,7 @@ reply_for None (Some answer) = answer
 reply_for None None = Rejected System
 
 -- the replies of those that waited, where their tokens were sealed, and else none
-abbrev pub IsToldBy : Call → List Answer → List Answer → Type 0
-IsToldBy Fine replies told = told ≡ replies
-IsToldBy OutOfMemory replies told = told ≡ []
-IsToldBy Failed replies told = told ≡ []
+abbrev pub replies_by : Call → List Answer → List Answer
+replies_by Fine replies = replies
+replies_by OutOfMemory replies = []
+replies_by Failed replies = []

@@ -1,9 +1,10 @@
-use Rattle.std.proofs.Common.{◌∙◌, map, sym, ap, subst}
+use Rattle.std.proofs.Common.{◌∙◌, map, refl, sym, ap, subst}
 use Rattle.book.specs.History.{Reserved}
 use Rattle.desk.specs.Calls.{settings_view}
-use Rattle.desk.specs.Commits.{call_for, IsCommitted}
-use Rattle.desk.specs.Halves.{AreBegun, reserved, unreserved}
+use Rattle.desk.specs.Commits.{call_for, IsCommitted, untried}
+use Rattle.desk.specs.Halves.{AreBegun, at_once, anew}
 use Rattle.desk.specs.Together.{questions_view}
+use Rattle.desk.specs.Verdicts.{JudgesEach}
 use Rattle.desk.specs.WaitingStamps.{waiting_view}
 use Rattle.desk.proofs.Committed.{commit_fine, commit_refused}
 use Rattle.desk.proofs.Halves.{begun_honest}
@@ -25,20 +26,33 @@ returns-clause-begins g c =
       | then-is_err w ↦
           let refusal = commit_refused c.reserve_each.result c.reserve_each.ensures.refusals
           (sym w.if-is_err.ensures.value) in
+          let none = ap (λ v. v.items) w.waits-is ∙ w.clear.ensures.items in
           subst (λ t. AreBegun g.B.Standing s asked c.if-is_err.verdicts.items c.if-is_err.waits.items old t)
           (sym w.store-is)
           (subst (λ v. AreBegun g.B.Standing s asked v.items c.if-is_err.waits.items old w.settle_each.new.store)
           (sym w.verdicts-is)
-          (unreserved c.judge_each.new.verdicts.items c.judge_each.new.waits.items call mid held h commits refusal
-          (w.settle_each.ensures.judges call refusal) (ap (λ v. v.items) w.waits-is ∙ w.clear.ensures.items)))
+          (record {
+            begun = held;
+            tried = anew c.judge_each.new.verdicts.items c.judge_each.new.waits.items call mid h commits refusal none;
+            judged = w.settle_each.new.store;
+            judges = subst (λ ws. JudgesEach g.B.Standing s asked w.settle_each.new.verdicts.items ws held
+                w.settle_each.new.store) (sym none) (w.settle_each.ensures.judges call refusal);
+            reserved = untried (ap (λ ws. map Reserved (map waiting_view ws)) none) refl refl;
+          }))
       | else-is_err w ↦
           subst (λ t. AreBegun g.B.Standing s asked c.if-is_err.verdicts.items c.if-is_err.waits.items old t)
           (sym w.store-is)
           (subst (λ v. AreBegun g.B.Standing s asked v.items c.if-is_err.waits.items old held) (sym w.verdicts-is)
           (subst (λ v. AreBegun g.B.Standing s asked c.judge_each.new.verdicts.items v.items old held) (sym w.waits-is)
-          (reserved mid h
-          (subst (λ k. IsCommitted g.B.Standing (map Reserved (map waiting_view c.judge_each.new.waits.items)) mid held k)
-          (commit_fine c.reserve_each.result (sym w.if-is_err.ensures.value)) commits))))
+          (record {
+            begun = old;
+            tried = at_once refl;
+            judged = mid;
+            judges = h;
+            reserved = subst (λ k. IsCommitted g.B.Standing (map Reserved (map waiting_view
+                c.judge_each.new.waits.items)) mid held k)
+                (commit_fine c.reserve_each.result (sym w.if-is_err.ensures.value)) commits;
+          })))
     ]
 
 pub returns-clause-honest : goal.returns-clause-honest

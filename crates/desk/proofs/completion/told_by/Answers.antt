@@ -1,18 +1,19 @@
-use Rattle.std.proofs.Common.{◌≡◌, ◌∙◌, true, false, map, ap}
+use Rattle.std.proofs.Common.{◌∙◌, map, ap, sym}
 use Rattle.desk.specs.Answers.{reply_as}
-use Rattle.desk.proofs.Committed.{told_of}
+use Rattle.desk.specs.Commits.{call_for}
+use Rattle.desk.specs.Verdicts.{replies_by}
+use Rattle.desk.proofs.Committed.{commit_fine, commit_refused, none_told}
 use Rattle.desk.proofs.completion.told_by.Goals.{then-is_err, else-is_err}
 use Rattle.desk.proofs.completion.told_by.Goals as goal
 
 pub returns : goal.returns
 returns c =
-    told_of c.args.sealed (map reply_as c.args.written.replies.items) (map reply_as c.if-is_err.told.items)
-    c.requires.storage
-    (λ fine. elim c.if-is_err.branch [
-      | then-is_err w ↦ absurd (let both : true ≡ false = w.if-is_err.ensures.value ∙ fine in cc)
+    let sealed = c.args.sealed in
+    let replies = map reply_as c.args.written.replies.items in
+    elim c.if-is_err.branch [
+      | then-is_err w ↦ ap (λ v. map reply_as v.items) w.told-is ∙ (ap (map reply_as) w.clear.ensures.items
+          ∙ sym (none_told (call_for sealed) replies
+          (commit_refused sealed c.requires.storage (sym w.if-is_err.ensures.value))))
       | else-is_err w ↦ ap (λ v. map reply_as v.items) w.told-is
-    ])
-    (λ failed. elim c.if-is_err.branch [
-      | then-is_err w ↦ ap (λ v. map reply_as v.items) w.told-is ∙ ap (map reply_as) w.clear.ensures.items
-      | else-is_err w ↦ absurd (let both : false ≡ true = w.if-is_err.ensures.value ∙ failed in cc)
-    ])
+          ∙ ap (λ call. replies_by call replies) (sym (commit_fine sealed (sym w.if-is_err.ensures.value)))
+    ]
