@@ -6,7 +6,8 @@ use Rattle.sqlite.specs.declared.error.Error.{Error}
 use Rattle.tables.specs.Base.{BaseValue, Keeps, IsStored}
 use Rattle.tables.specs.Changes.{applied_all}
 use Rattle.tables.specs.Tables.{no_rows}
-use Rattle.tables.specs.Versions.{Creates}
+use Rattle.tables.specs.Schema.{no_schema}
+use Rattle.tables.specs.Versions.{Creates, IsInTheWay}
 use Rattle.book.specs.Entries.{with_all, FitInTurn}
 use Rattle.book.specs.declared.fault.StoreFault.{StoreFault}
 use Rattle.book.specs.History.{Entry}
@@ -39,6 +40,12 @@ stands_made g entries store fit keeps = record {
   sound = sound_all entries [] tt fit;
   kept = subst (λ t. Keeps g t store) (tables_made entries fit) keeps;
 }
+
+-- nothing is in the way in an empty database
+pub none_in_the_way : ¬ IsInTheWay no_schema
+none_in_the_way (inl taken) = absurd taken
+none_in_the_way (inr (inl taken)) = absurd taken
+none_in_the_way (inr (inr lacking)) = absurd lacking
 
 -- with no entries it is the empty history's
 pub made_of_none : {S : Type 0} (g : Ghosts S) (r : Result (BaseValue S) StoreFault)

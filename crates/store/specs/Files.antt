@@ -175,6 +175,40 @@ IsFreeAt g held sight paths path =
 abbrev pub IsForeign : {D : Type 0} → Ghosts D → Image → Type 0
 IsForeign g held = OpensNothing g held ⊎ OpensForeign g held
 
+-- by what a connection left, while that returned what was written, this is so of it
+pub record Seems (Is : State → State → Type 0) (was : State) : Type 0 where
+  pub left : State
+  pub clean : HasCleanDisk left → HasCleanDisk was
+  pub is : HasCleanDisk left → Is was left
+
+-- and of one that was opened over what the files held
+pub record OpensSo {D : Type 0} (g : Ghosts D) (held : Image) (Is : State → State → Type 0) : Type 0 where
+  pub was : Held (FileStore D g)
+  pub seems : Seems Is (file_state was)
+  pub found : HasCleanDisk seems.left → IsOpened was × FindsIn held (file_state was)
+
+-- its database has a table, an index or a view
+abbrev pub HasTables : State → State → Type 0
+HasTables was left = ¬ (was.now.schema ≡ no_schema)
+
+-- no history's tables of any version are there, unless it was shut
+abbrev pub HasNoVersion : State → State → Type 0
+HasNoVersion was left =
+    IsTrue left.is_open → (v : Version) (b : History) → ¬ IsFoundIn (number_of v) (tables_of b) was
+
+-- why no tables are made over files
+abbrev pub IsTaken : {D : Type 0} → Ghosts D → Image → Type 0
+IsTaken g held = OpensNothing g held ⊎ OpensSo g held HasTables
+
+-- and why those there aren't taken to the schema of now
+abbrev pub IsUnmigrated : {D : Type 0} → Ghosts D → Image → Type 0
+IsUnmigrated g held = OpensNothing g held ⊎ OpensSo g held HasNoVersion
+
+-- by what was seen at a path, what stands there is refused as another's
+abbrev pub IsSeenAnothers : {P : Type 0} → Sight P → P → List ℕ → (FileState → Result (Unit {0}) StoreFault) → Type 0
+IsSeenAnothers sight paths path refusal =
+    (found : FileState) × sight.sees paths path found × (refusal found ≡ Err NotOurs)
+
 -- how a database begins
 abbrev pub beginning : List ℕ
 beginning = codes "SQLite format 3" ++ 0 ∷ []

@@ -1,5 +1,5 @@
 //! The database at a path: how its store is opened, and how it is made.
-ghost use Rattle.std.specs.Prelude.{◌≡◌, ◌↔◌, [], false, Ok, IfOk, IfErr, OnOk, IsTrue};
+ghost use Rattle.std.specs.Prelude.{◌≡◌, ◌↔◌, ◌⊎◌, [], false, Ok, Err, IfOk, IfErr, OnErr, OnOk, IsTrue};
 ghost use Rattle.sqlite_wal.specs.Files.{image_at};
 ghost use Rattle.sqlite.specs.Files.{file_state, over_files, IsOpened, IsBlankAs};
 ghost use Rattle.sqlite.specs.Held.{state};
@@ -16,7 +16,7 @@ ghost use Rattle.store.specs.TablesOf.{tables_of};
 ghost use Rattle.store.specs.Stands.{Stands};
 ghost use Rattle.store.specs.Files.{OpensFound, IsForeign, OpensNothing, SeemsForeign, IsMigrated, HasMigrated};
 ghost use Rattle.store.specs.Files.{FailsToOpen, IsBare, IsFree, IsFreeAt, MigratesFound};
-ghost use Rattle.store.specs.Files.{told_opening};
+ghost use Rattle.store.specs.Files.{HasNoVersion, HasTables, IsSeenAnothers, IsTaken, IsUnmigrated, Seems, told_opening};
 ghost use Rattle.store.specs.Files.{fault_where, fault_where_made, fault_at};
 ghost use Rattle.book.specs.Fault.{IsOfStorageOr};
 ghost use Rattle.sqlite.specs.declared.error.Error.{Error as SpecError};
@@ -49,6 +49,9 @@ impl<T: Start + Drop> Store<FileStore<FileFrom<T>>> {
     ) -> Result<Store<FileStore<FileFrom<T>>>, StoreFault>
         ensures found { IfOk result (λ store. HasCleanDisk (file_state store.conn)
             → OpensFound (image_at T.Start) store) }
+        ensures foreign { IfErr result (λ e. e ≡ StoreFault.NotOurs
+            → IsSeenAnothers P.Paths paths.now path.now fault_where
+            ⊎ IsForeign ⟦<FileFrom<T> as Disk>⟧ (image_at T.Start)) }
         ensures uncounted { IfOk result (λ store. store.faults ≡ 0) }
         ensures refusals { IfErr result (IsOfStorageOr StoreFault.NotOurs) }
     {
@@ -68,6 +71,9 @@ impl<T: Start + Drop> Store<FileStore<FileFrom<T>>> {
         ensures made { IfOk result (λ store. Stands over_files [] store) }
         ensures opened { IfOk result (λ store. HasCleanDisk (file_state store.conn)
             → IsTrue (file_state store.conn).is_open) }
+        ensures foreign { IfErr result (λ e. e ≡ StoreFault.NotOurs
+            → IsSeenAnothers P.Paths paths.now path.now fault_where_made
+            ⊎ IsTaken ⟦<FileFrom<T> as Disk>⟧ (image_at T.Start)) }
         ensures uncounted { IfOk result (λ store. store.faults ≡ 0) }
         ensures refusals { IfErr result (IsOfStorageOr StoreFault.NotOurs) }
     {
@@ -87,6 +93,9 @@ impl<T: Start + Drop> Store<FileStore<FileFrom<T>>> {
             → Stands over_files (with_all (entries_view entries.now) []) store) }
         ensures opened { IfOk result (λ store. HasCleanDisk (file_state store.conn)
             → IsTrue (file_state store.conn).is_open) }
+        ensures foreign { IfErr result (λ e. e ≡ StoreFault.NotOurs
+            → IsSeenAnothers P.Paths paths.now path.now fault_where_made
+            ⊎ IsTaken ⟦<FileFrom<T> as Disk>⟧ (image_at T.Start)) }
         ensures uncounted { IfOk result (λ store. store.faults ≡ 0) }
         ensures refusals { IfErr result (IsOfStorageOr StoreFault.NotOurs) }
     {
@@ -100,6 +109,9 @@ impl<T: Start + Drop> Store<FileStore<FileFrom<T>>> {
     /// there is left as it is then.
     pub fn migrate_at<P: Paths>(paths: &P, path: &str, start: T) -> Result<(), StoreFault>
         ensures migrated { IfOk result (λ _. MigratesFound ⟦<FileFrom<T> as Disk>⟧ (image_at T.Start)) }
+        ensures foreign { IfErr result (λ e. e ≡ StoreFault.NotOurs
+            → IsSeenAnothers P.Paths paths.now path.now fault_where
+            ⊎ IsUnmigrated ⟦<FileFrom<T> as Disk>⟧ (image_at T.Start)) }
         ensures refusals { IfErr result (IsOfStorageOr StoreFault.NotOurs) }
     {
         let place = find_database(paths, path)?;
@@ -122,6 +134,8 @@ impl<T: Start + Drop> Store<FileStore<FileFrom<T>>> {
             → IsForeign ⟦<FileFrom<T> as Disk>⟧ (image_at T.Start)) }
         ensures made { course ≡ Course.Create → IfOk result (λ store. FitInTurn (entries_view entries.now) []
             → Stands over_files (with_all (entries_view entries.now) []) store) }
+        ensures taken { course ≡ Course.Create → IfErr result (λ e. e ≡ StoreFault.NotOurs
+            → IsTaken ⟦<FileFrom<T> as Disk>⟧ (image_at T.Start)) }
         ensures opened { course ≡ Course.Create → IfOk result (λ store. HasCleanDisk (file_state store.conn)
             → IsTrue (file_state store.conn).is_open) }
         ensures uncounted { IfOk result (λ store. store.faults ≡ 0) }
@@ -138,6 +152,8 @@ impl<T: Start + Drop> Store<FileStore<FileFrom<T>>> {
     fn migrate_at_place(rt: &HostRuntime, place: Place<'_>, start: T) -> Result<(), StoreFault>
         requires { fault_where place.found ≡ Ok tt }
         ensures migrated { IfOk result (λ _. MigratesFound ⟦<FileFrom<T> as Disk>⟧ (image_at T.Start)) }
+        ensures foreign { IfErr result (λ e. e ≡ StoreFault.NotOurs
+            → IsUnmigrated ⟦<FileFrom<T> as Disk>⟧ (image_at T.Start)) }
         ensures refusals { IfErr result (IsOfStorageOr StoreFault.NotOurs) }
     {
         let conn = connect(rt, place.path, start)?;
@@ -155,6 +171,7 @@ fn migrate_files<D: Disk + Drop>(
 ) -> Result<Result<Files<D>, StoreFault>, StoreFault>
     requires { conn.in_transaction ≡ false }
     ensures migrated { IfOk result (IsMigrated conn) }
+    ensures foreign { IfErr result (λ e. e ≡ StoreFault.NotOurs → Seems HasNoVersion (file_state conn)) }
     ensures refusals { IfErr result (IsOfStorageOr StoreFault.NotOurs) }
 {
     let conn = migrate_or_drop(conn)?;
@@ -165,6 +182,8 @@ fn migrate_files<D: Disk + Drop>(
 fn find_database<'path, P: Paths>(paths: &P, path: &'path str) -> Result<Place<'path>, StoreFault>
     ensures found { IfOk result (λ place. fault_where place.found ≡ Ok tt) }
     ensures there { IfOk result (λ place. place.path.now ≡ path.now) }
+    ensures foreign { IfErr result (λ e. e ≡ StoreFault.NotOurs
+        → IsSeenAnothers P.Paths paths.now path.now fault_where) }
     ensures refusals { IfErr result (IsOfStorageOr StoreFault.NotOurs) }
 {
     let place = find(paths, path)?;
@@ -198,6 +217,9 @@ fn may_make(found: FileState) -> Result<(), StoreFault>
 pub fn may_make_at<P: Paths>(paths: &P, path: &str) -> Result<(), StoreFault>
     ensures free { OnOk result (IsFreeAt ⟦<FileFrom<Unknown> as Disk>⟧ (image_at ⟦<Unknown as Start>⟧)
         P.Paths paths.now path.now) }
+    ensures taken { IfErr result (λ e. e ≡ StoreFault.NotOurs
+        → IsSeenAnothers P.Paths paths.now path.now fault_where_made
+        ⊎ IsTaken ⟦<FileFrom<Unknown> as Disk>⟧ (image_at ⟦<Unknown as Start>⟧)) }
     ensures refusals { IfErr result (IsOfStorageOr StoreFault.NotOurs) }
 {
     may_make_at_place(paths, find(paths, path)?)
@@ -207,6 +229,9 @@ pub fn may_make_at<P: Paths>(paths: &P, path: &str) -> Result<(), StoreFault>
 fn may_make_at_place<P: Paths>(paths: &P, place: Place<'_>) -> Result<(), StoreFault>
     ensures free { OnOk result (IsFree ⟦<FileFrom<Unknown> as Disk>⟧ (image_at ⟦<Unknown as Start>⟧)
         (P.makes paths.now place.entry.path.now) place.entry.found) }
+    ensures taken { IfErr result (λ e. e ≡ StoreFault.NotOurs
+        → (fault_where_made place.entry.found ≡ Err StoreFault.NotOurs)
+        ⊎ IsTaken ⟦<FileFrom<Unknown> as Disk>⟧ (image_at ⟦<Unknown as Start>⟧)) }
     ensures refusals { IfErr result (IsOfStorageOr StoreFault.NotOurs) }
 {
     may_make(place.found)?;
@@ -221,6 +246,8 @@ fn may_make_at_place<P: Paths>(paths: &P, place: Place<'_>) -> Result<(), StoreF
 /// clause names what they hold.
 fn look_for_tables(rt: &HostRuntime, path: &str) -> Result<(), StoreFault>
     ensures bare { OnOk result (IsBare ⟦<FileFrom<Unknown> as Disk>⟧ (image_at ⟦<Unknown as Start>⟧)) }
+    ensures taken { IfErr result (λ e. e ≡ StoreFault.NotOurs
+        → IsTaken ⟦<FileFrom<Unknown> as Disk>⟧ (image_at ⟦<Unknown as Start>⟧)) }
     ensures refusals { IfErr result (IsOfStorageOr StoreFault.NotOurs) }
 {
     let conn = connect(rt, path, Unknown)?;
@@ -231,6 +258,7 @@ fn look_for_tables(rt: &HostRuntime, path: &str) -> Result<(), StoreFault>
 /// Drops a connection whose database has no table, index or view; else it is `NotOurs`.
 fn drop_if_bare<S: Alter + Drop>(conn: Connection<S>) -> Result<(), StoreFault>
     ensures bare { OnOk result ((state S.Store conn).now.schema ≡ no_schema) }
+    ensures taken { OnErr result (Seems HasTables (state S.Store conn)) }
     ensures refusals { IfErr result (λ fault. fault ≡ StoreFault.NotOurs) }
 {
     if has_no_table(&conn) {
@@ -279,6 +307,7 @@ fn migrate_or_drop<S: Alter + Drop>(mut conn: Connection<S>) -> Result<Connectio
     requires { conn.in_transaction ≡ false }
     ensures closed { IfOk result (λ left. left.in_transaction ≡ false) }
     ensures migrates { IfOk result (λ left. HasMigrated (state S.Store conn) (state S.Store left)) }
+    ensures foreign { IfErr result (λ e. e ≡ StoreFault.NotOurs → Seems HasNoVersion (state S.Store conn)) }
     ensures refusals { IfErr result (IsOfStorageOr StoreFault.NotOurs) }
 {
     match Store::migrate(&mut conn) {
@@ -303,6 +332,8 @@ fn store_or_drop<S: Alter + Drop>(
     ensures foreign { course ≡ Course.Adopt → IfErr result (λ e. e ≡ StoreFault.NotOurs → SeemsForeign S.Store conn) }
     ensures made { course ≡ Course.Create → IfOk result (λ store. FitInTurn (entries_view entries.now) []
         → Stands S.Store (with_all (entries_view entries.now) []) store) }
+    ensures taken { course ≡ Course.Create → IfErr result (λ e. e ≡ StoreFault.NotOurs
+        → Seems HasTables (state S.Store conn)) }
     ensures opened { course ≡ Course.Create → IfOk result (λ store. HasCleanDisk (state S.Store store.conn)
         → IsTrue (state S.Store store.conn).is_open) }
     ensures uncounted { IfOk result (λ store. store.faults ≡ 0) }
@@ -343,6 +374,7 @@ fn create_or_drop<S: Alter + Drop>(
     requires { conn.in_transaction ≡ false }
     ensures made { IfOk result (λ store. FitInTurn (entries_view entries.now) []
         → Stands S.Store (with_all (entries_view entries.now) []) store) }
+    ensures taken { IfErr result (λ e. e ≡ StoreFault.NotOurs → Seems HasTables (state S.Store conn)) }
     ensures opened { IfOk result (λ store. HasCleanDisk (state S.Store store.conn)
         → IsTrue (state S.Store store.conn).is_open) }
     ensures uncounted { IfOk result (λ store. store.faults ≡ 0) }

@@ -25,3 +25,13 @@ returns-in-Err-clause-foreign g c adopts is =
 
 pub returns-in-Err-clause-refusals : goal.returns-in-Err-clause-refusals
 returns-in-Err-clause-refusals g c = c.in-Err.ensures.refusals
+
+pub returns-in-Err-clause-taken : goal.returns-in-Err-clause-taken
+returns-in-Err-clause-taken g c makes is =
+    let seems = c.in-Err.ensures.taken makes is in
+    inr (record {
+      was = c.in_ok-conn.conn;
+      seems = seems;
+      found = λ clean. let early = seems.clean clean in
+          (c.in_ok-conn.ensures.opened early, c.in_ok-conn.ensures.found early);
+    })
