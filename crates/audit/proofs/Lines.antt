@@ -9,6 +9,7 @@ use Rattle.std.specs.Io.KnownBytes.{Appends}
 use Rattle.std.specs.declared.alloc.Global.{Global}
 use Rattle.std.proofs.lemmas.Grind.{flat_map-append}
 use Rattle.csv.specs.Writing.{default_writer, row_body}
+use Rattle.book.proofs.Asked.{asked_none, asked_then}
 use Rattle.book.specs.declared.standing.Standing.{Ghosts}
 use Rattle.book.specs.Rows.{StampRow}
 use Rattle.book.specs.History.{History, stamps_between}
@@ -357,16 +358,6 @@ pub record IsAskedOf {B : Type 0} (g : Ghosts B) (old now : B) (from to left las
     pub times : IsAsked told asked asked'
     pub splits : g.honest now → (b : History) → Stands g b old
         → length (stamps_between from to b) ≡ told + length (stamps_between left last b)
-
-asked_none : (asked : Option ℕ) → IsAsked 0 asked asked
-asked_none None = tt
-asked_none (Some n) = omega arith
-
-asked_then : (told : ℕ) (a b c : Option ℕ) → IsAsked told a b → IsAsked 1 b c → IsAsked (told + 1) a c
-asked_then told None b c first second = tt
-asked_then told (Some a) None c first second = absurd first
-asked_then told (Some a) (Some b) None first second = absurd second
-asked_then told (Some a) (Some b) (Some c) first second = omega (arith, first, second)
 
 pub asked_first : {B : Type 0} (g : Ghosts B) (store : B) (from to : ℕ) (asked : Option ℕ)
     → IsAskedOf g store store from to from to asked asked

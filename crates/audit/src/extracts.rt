@@ -15,9 +15,8 @@ ghost use Rattle.audit.specs.Writes.{Writes};
 use crate::auditor::allow;
 use crate::fault::ExtractFault;
 use crate::line::{header, line_of};
-use crate::output::Output;
 use crate::writes::{Meter, write_line};
-use book::{Book, StampsBetween};
+use book::{Book, Output, StampsBetween};
 use policy::{Account, Policy};
 use std::alloc::Global;
 

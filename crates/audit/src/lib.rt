@@ -6,12 +6,11 @@ mod check;
 mod extracts;
 mod fault;
 mod line;
-mod output;
 mod writes;
 
+pub use book::Output;
 pub use check::{check_deposit, check_row, identity_at};
 pub use extracts::{Extracted, Inquiry, extract, extract_length, write_extract};
 pub use fault::ExtractFault;
 pub use line::{identifier_text, moment_text, state_text};
-pub use output::Output;
 pub use writes::write_octets;

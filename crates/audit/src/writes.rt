@@ -5,7 +5,7 @@ ghost use Rattle.audit.specs.Failures.{HasFailed, StopsFor};
 ghost use Rattle.audit.specs.Writes.{WritesLine};
 
 use crate::fault::ExtractFault;
-use crate::output::Output;
+use book::Output;
 
 /// Writes octets until all are written, or a write fails or takes none: how many were. Takes no memory.
 pub fn write_octets<W: Output>(out: &mut W, octets: &[u8]) -> usize

@@ -1,3 +1,4 @@
+pub mod Asked
 pub mod GoingOn
 pub mod Identities
 pub mod Numbers

@@ -3,6 +3,7 @@ pub mod Entries
 pub mod Fault
 pub mod History
 pub mod Identities
+pub mod Output
 pub mod Ranges
 pub mod Readers
 pub mod Rights

@@ -1,6 +1,6 @@
 //! The book: a list of entries is added in one commit, each look-up answers a view of the history.
 ghost use Rattle.std.specs.Prelude.{◌≡◌, ◌↔◌, [], ◌∷◌, ◌+◌, ◌<◌, ◌≤◌, ◌^◌, true, false, map, length, reverse};
-ghost use Rattle.std.specs.Prelude.{None, option_map};
+ghost use Rattle.std.specs.Prelude.{◌≢◌, MatchResult, None, option_map};
 ghost use Rattle.std.specs.Prelude.{Ok, Err, IfOk, IfErr, IfSome, IsErr, OnOk, IsTrue};
 ghost use Rattle.std.specs.Io.KnownBytes.{Keeps};
 ghost use Rattle.book.specs.Entries.{entries_view, Appends};
@@ -8,6 +8,7 @@ ghost use Rattle.book.specs.History.{History, Reserved, Sealed, Deposited, Calib
 ghost use Rattle.book.specs.History.{Installed, count_of_day, calibrations, holds, latest_calibration, is_held};
 ghost use Rattle.book.specs.History.{deposit_under};
 ghost use Rattle.book.specs.Identities.{identities};
+ghost use Rattle.book.specs.Output.{IsAskedAtLeast};
 ghost use Rattle.book.specs.Readers.{Account, Group};
 ghost use Rattle.book.specs.Rights.{is_own, is_visible, listed, deposit_with_stamp};
 ghost use Rattle.book.specs.Shows.{ShowsSame};
@@ -22,10 +23,10 @@ ghost use Rattle.book.specs.Ranges.{IsNextStamp, IsWithin};
 use crate::entries::{Entry, Reader};
 use crate::fault::StoreFault;
 use crate::limits::GREATEST_NUMBER;
+use crate::output::Output;
 use crate::rows::{Deposit, IdentityRow, Stamp};
 use crate::standing::Standing;
 use crate::values::{Calibration, Hold, Last, Listed, Reservation, StampedDeposit};
-use std::io::Write;
 
 /// The history of what the counter accepted, to which `append` alone adds.
 ///
@@ -117,9 +118,9 @@ pub trait Book: Standing {
     /// The deposits that an account sees, as their owner, or as a reader, by its own name or in one of the groups that
     /// are named; by number, each once. No deposit's bytes are read.
     ///
-    /// Before a row is looked up, the output may be flushed, and nothing is written to it. Where that fails, as where
-    /// the output's time is up, the list is given up, and refused with `Memory`.
-    fn list<W: Write>(
+    /// Before each row is looked up, the output is asked to send what was written, and nothing is written to it. Where
+    /// that fails, as where the output's time is up, the list is given up, and refused with `Memory`.
+    fn list<W: Output>(
         &mut self,
         account: &str,
         groups: &[&str],
@@ -131,6 +132,9 @@ pub trait Book: Standing {
             → IfOk result (λ rows. map listed_view rows.items
             ≡ listed (viewer_of account.now (map (λ name. name.now) groups.now)) b) }
         ensures unwritten { Keeps (W.contents output.old) (W.contents output.new) }
+        ensures asked { IfOk result (λ rows. IsAskedAtLeast (length rows.items) (W.asked output.old) (W.asked output.new)) }
+        ensures kept { MatchResult result (λ _. W.failures output.new ≡ W.failures output.old)
+            (λ e. e ≢ StoreFault.Memory → W.failures output.new ≡ W.failures output.old) }
         ensures refusals { IfErr result IsOfStorage }
         ensures faults { CountsFaults result (Self.fault_count self.old) (Self.fault_count self.new) };
 

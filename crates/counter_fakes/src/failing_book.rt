@@ -4,10 +4,9 @@ ghost use Rattle.book.specs.History.{History};
 ghost use Rattle.book.specs.Stands.{Stands};
 
 use book::{
-    Book, Calibration, Deposit, Entry, GREATEST_NUMBER, Hold, IdentityRow, Last, Listed, Stamp,
-    StampedDeposit, Standing, StoreFault,
+    Book, Calibration, Deposit, Entry, GREATEST_NUMBER, Hold, IdentityRow, Last, Listed, Output,
+    Stamp, StampedDeposit, Standing, StoreFault,
 };
-use std::io::Write;
 
 /// A book of which one call fails, with `Database`, and leaves all as it was. It passes the others to a book behind it.
 /// A look-up and an addition of entries are such calls; a look-up of a number above 2^63 - 1 is none.
@@ -120,7 +119,7 @@ impl<B: Book> Book for FailingBook<B> {
         self.book.by_reference(owner, reference)
     }
 
-    fn list<W: Write>(
+    fn list<W: Output>(
         &mut self,
         account: &str,
         groups: &[&str],

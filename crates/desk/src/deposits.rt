@@ -1,8 +1,9 @@
 //! The calls of the counter on deposits and the rights to them.
-ghost use Rattle.std.specs.Prelude.{◌≡◌, ◌⊎◌, ◌<◌, length, Err, IfErr};
+ghost use Rattle.std.specs.Prelude.{◌≡◌, ◌⊎◌, ◌<◌, length, Err, IfErr, IfOk};
 ghost use Rattle.std.specs.Io.KnownBytes.{Keeps};
 ghost use Rattle.policy.specs.View.{account_view};
 ghost use Rattle.book.specs.Entries.{reader_view};
+ghost use Rattle.book.specs.Output.{IsAskedAtLeast};
 ghost use Rattle.book.specs.Readers.{Account as Named, Group};
 ghost use Rattle.desk.specs.Answers.{answered};
 ghost use Rattle.desk.specs.Asked.{right_command};
@@ -18,11 +19,10 @@ use crate::new_deposit::{Submission, deposit_with};
 use crate::reply::Deposited;
 use crate::rights::{Change, change_by};
 use crate::sight::{list_to, show_to, token_to};
-use book::{Book, Listed, Reader};
+use book::{Book, Listed, Output, Reader};
 use cms::Signer;
 use policy::Account;
 use std::io;
-use std::io::Write;
 
 impl<'p, B: Book + Drop> Desk<'p, B> {
     /// Stamps octets for the account (RFC 3161 2.4.1, with SHA-256), and keeps them with their token under the owner's
@@ -100,15 +100,17 @@ impl<'p, B: Book + Drop> Desk<'p, B> {
         self.list_within(account, &mut io::sink())
     }
 
-    /// What `list` answers, as long as an output has time: it may be flushed before each row is looked up, and nothing
-    /// is written to it. Where that fails, the list is given up, and refused with `Memory`. Refused as `list` else.
-    pub fn list_within<W: Write>(
+    /// What `list` answers, as long as an output has time: before each row is looked up, it is asked to send what was
+    /// written, and nothing is written to it. Where that fails, the list is given up, and refused with `Memory`. Refused
+    /// as `list` else.
+    pub fn list_within<W: Output>(
         &mut self,
         account: &Account,
         output: &mut W,
     ) -> Result<Vec<Listed>, Fault>
         ensures honest { B.honest self.new.store → B.honest self.old.store }
         ensures unwritten { Keeps (W.contents output.old) (W.contents output.new) }
+        ensures asked { IfOk result (λ rows. IsAskedAtLeast (length rows.items) (W.asked output.old) (W.asked output.new)) }
         ensures refusals { IfErr result (λ fault. (fault ≡ Fault.Memory) ⊎ (fault ≡ Fault.Store)) }
         ensures step { IsStep B.Standing no_signer (ListAll (account_view account.now)) self.old self.new
             (answered listed_as result) }

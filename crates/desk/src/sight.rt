@@ -1,9 +1,10 @@
 //! What an account sees.
-ghost use Rattle.std.specs.Prelude.{◌≡◌, ◌⊎◌, map, option_map, IfOk, IfErr, MatchResult};
+ghost use Rattle.std.specs.Prelude.{◌≡◌, ◌⊎◌, length, map, option_map, IfOk, IfErr, MatchResult};
 ghost use Rattle.std.specs.Io.KnownBytes.{Keeps};
 ghost use Rattle.policy.specs.View.{account_view, policy_view};
 ghost use Rattle.book.specs.Fault.{CountsFaults, IsOfStorage};
 ghost use Rattle.book.specs.History.{History};
+ghost use Rattle.book.specs.Output.{IsAskedAtLeast};
 ghost use Rattle.book.specs.Rights.{listed};
 ghost use Rattle.book.specs.Stands.{Stands, OnlyLooks};
 ghost use Rattle.book.specs.Values.{listed_view, stamp_view};
@@ -20,10 +21,9 @@ ghost use Rattle.desk.specs.Viewers.{viewer_in};
 use crate::fault::Fault;
 use crate::obstacle::Obstacle;
 use crate::settings::Settings;
-use book::{Book, Listed, Stamp, StoreFault};
+use book::{Book, Listed, Output, Stamp, StoreFault};
 use policy::{Account, Policy};
 use std::alloc::Global;
-use std::io::Write;
 use tsp::write_granted;
 
 /// An account, which the policy file knows with its groups, sees the deposit with a number.
@@ -51,7 +51,7 @@ pub(crate) fn see<B: Book + Drop>(
 }
 
 /// All that such an account sees, by number, as long as the output can be flushed.
-fn all_seen<B: Book + Drop, W: Write>(
+fn all_seen<B: Book + Drop, W: Output>(
     store: &mut B,
     policy: &Policy,
     account: &str,
@@ -62,6 +62,7 @@ fn all_seen<B: Book + Drop, W: Write>(
         → IfOk result (λ rows. map listed_view rows.items
         ≡ listed (viewer_in (policy_view policy.now) account.now) b) }
     ensures unwritten { Keeps (W.contents output.old) (W.contents output.new) }
+    ensures asked { IfOk result (λ rows. IsAskedAtLeast (length rows.items) (W.asked output.old) (W.asked output.new)) }
     ensures refusals { IfErr result IsOfStorage }
     ensures faults { CountsFaults result (B.fault_count store.old) (B.fault_count store.new) }
 {
@@ -123,7 +124,7 @@ pub(crate) fn token_to<B: Book + Drop>(
 }
 
 /// All that the account sees, by number, as long as the output can be flushed.
-pub(crate) fn list_to<B: Book + Drop, W: Write>(
+pub(crate) fn list_to<B: Book + Drop, W: Output>(
     store: &mut B,
     settings: Settings<'_>,
     account: &Account,
@@ -133,6 +134,7 @@ pub(crate) fn list_to<B: Book + Drop, W: Write>(
     ensures step { StepsBy B.Standing no_signer (settings_view settings.entry) (ListAll (account_view account.now))
         (outcome_with result) store.old store.new (told_with listed_as result) }
     ensures unwritten { Keeps (W.contents output.old) (W.contents output.new) }
+    ensures asked { IfOk result (λ rows. IsAskedAtLeast (length rows.items) (W.asked output.old) (W.asked output.new)) }
     ensures refusals { IfErr result (λ obstacle. (fault_with obstacle ≡ Fault.Memory)
         ⊎ (fault_with obstacle ≡ Fault.Store)) }
 {

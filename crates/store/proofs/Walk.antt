@@ -1,8 +1,8 @@
 -- The walk of a list, one visible deposit after the other.
-use Rattle.std.proofs.Common.{◌≡◌, ℕ, ◌<◌, List, [], ◌++◌, length, replicate, get_or, Option, Some, None}
+use Rattle.std.proofs.Common.{◌≡◌, ℕ, ◌+◌, ◌<◌, ◌≤◌, List, [], ◌∷◌, ◌++◌, map, length, replicate, get_or, Option, Some, None}
 use Rattle.std.proofs.Common.{option_map, unwrap_or, arith}
 use Rattle.std.proofs.Common.{option_to_list, refl, sym, ap, ◌∙◌}
-use Rattle.std.proofs.lemmas.List.{length-replicate, get_or-replicate}
+use Rattle.std.proofs.lemmas.List.{length-append, length-map, length-replicate, get_or-replicate}
 use Rattle.sqlite_trees.specs.declared.store.Store.{Ghosts}
 use Rattle.tables.specs.Base.{BaseValue, IsHonest, IsOpen}
 use Rattle.book.specs.History.{History}
@@ -133,3 +133,11 @@ whole_listed g old now seen viewer rows last cursors known before first none h b
     let at_now = first.honest h in
     before.listed at_now b s ∙ all_listed viewer b last s.sound
     (none h b (before.looks.stands b s) (before.ahead at_now b s) (before.owned at_now b s))
+
+-- a list whose values are those of another, and one more at most, is longer by one at most
+pub one_more : {X Y : Type 0} (f : X → Y) (xs ys : List X) (more : Option Y) → map f ys ≡ map f xs ++ option_to_list more
+    → length ys ≤ length xs + 1
+one_more f xs ys None is =
+    omega (arith, length-map ys f, length-map xs f, ap length is, length-append (map f xs) [])
+one_more f xs ys (Some y) is =
+    omega (arith, length-map ys f, length-map xs f, ap length is, length-append (map f xs) (y ∷ []))

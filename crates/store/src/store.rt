@@ -10,12 +10,11 @@ use crate::cursors::Cursors;
 use crate::deposits::add_listed;
 use crate::ranges::only_within;
 use book::{
-    Book, Calibration, Deposit, Entry, GREATEST_NUMBER, Hold, IdentityRow, Last, Listed, Stamp,
-    StampedDeposit, Standing, StoreFault,
+    Book, Calibration, Deposit, Entry, GREATEST_NUMBER, Hold, IdentityRow, Last, Listed, Output,
+    Stamp, StampedDeposit, Standing, StoreFault,
 };
 use sqlite::{Alter, Connection};
 use std::alloc::Global;
-use std::io::Write;
 use std::marker::Model;
 use tables::{Base, ColumnNumber, LastStamp, NumberedCalibration};
 
@@ -121,7 +120,7 @@ impl<S: Alter + Drop> Book for Store<S> {
         Ok(found)
     }
 
-    fn list<W: Write>(
+    fn list<W: Output>(
         &mut self,
         account: &str,
         groups: &[&str],
@@ -133,7 +132,7 @@ impl<S: Alter + Drop> Book for Store<S> {
         self.look_up(account, &mut known)?;
         let mut last = 0;
         while let Some(number) = self.next_seen(account, groups, last, &mut cursors, &mut known)? {
-            if output.flush().is_err() {
+            if !output.send() {
                 return Err(StoreFault::Memory);
             }
             let row = self.listing(number, &mut known)?;

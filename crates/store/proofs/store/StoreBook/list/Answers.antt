@@ -1,12 +1,14 @@
-use Rattle.std.proofs.Common.{◌<◌, ◌^◌, ◌∙◌, IfSome, map, replicate, ap, sym, subst}
+use Rattle.std.proofs.Common.{◌<◌, ◌^◌, ◌∙◌, IfSome, length, map, replicate, ap, refl, sym, subst}
 use Rattle.std.proofs.lemmas.List.{length-map}
 use Rattle.std.proofs.KnownBytes.{Keeps-refl, Keeps-trans}
+use Rattle.book.proofs.Asked.{asked_again, asked_not}
+use Rattle.book.specs.Output.{IsAskedAtLeast}
 use Rattle.book.specs.Values.{listed_view, viewer_of}
 use Rattle.store.specs.Steps.{IsNextSeen, AreNextReadable}
 use Rattle.store.proofs.Calls.{no_answer}
 use Rattle.store.proofs.LabelRows.{none_owned}
 use Rattle.store.proofs.Walk.{HasListed, at_first, looks_after, sized_at_first, ahead_at_first, nothing_listed}
-use Rattle.store.proofs.Walk.{row_listed, whole_listed}
+use Rattle.store.proofs.Walk.{one_more, row_listed, whole_listed}
 use Rattle.store.proofs.store.StoreBook.list.Goals as goal
 
 pub loop-known-init : goal.loop-known-init
@@ -23,6 +25,10 @@ loop-known-init g c =
           (sized_at_first viewer cursors shared) (ahead_at_first viewer cursors c.in_ok-cursors.ensures.own shared)
           (λ h b s. c.in_ok-look_up.ensures.value h b s (none_owned b _ c.new-known.ensures.items))),
       Keeps-refl (g.W.Write.contents c.args.output.now),
+      subst (λ items. IsAskedAtLeast (length items) (g.W.Output.asked c.args.output.now)
+          (g.W.Output.asked c.args.output.now))
+          (sym c.new-rows.ensures.items) (asked_not (g.W.Output.asked c.args.output.now)),
+      refl,
     )
 
 pub loop-known-preserved : goal.loop-known-preserved
@@ -44,7 +50,10 @@ loop-known-preserved g c =
           × AreNextReadable viewer last b after.own after.shared.items) is
           (c.in_ok-number.ensures.value h b s ahead owned))
           c.in_ok-number.ensures.known c.in_ok-row.ensures.value c.in_ok-row.ensures.known),
-      Keeps-trans _ _ _ c.loop-known.invariant.1 c.flush.ensures.bytes,
+      Keeps-trans _ _ _ c.loop-known.invariant.1 c.send.ensures.kept,
+      asked_again _ _ _ _ _ c.loop-known.invariant.2 c.send.ensures.asked
+          (one_more listed_view _ _ _ c.in_ok-add_listed.ensures.added),
+      c.send.ensures.sent c.if-not-send.false ∙ c.loop-known.invariant.3,
     )
 
 pub returns-clause-value : goal.returns-clause-value
@@ -62,8 +71,8 @@ pub returns-in_err-number-clause-looks : goal.returns-in_err-number-clause-looks
 returns-in_err-number-clause-looks g c =
     looks_after g.S.Store _ _ _ c.loop-known.invariant.0.looks c.in_err-number.ensures.looks
 
-pub returns-then-is_err-clause-looks : goal.returns-then-is_err-clause-looks
-returns-then-is_err-clause-looks g c =
+pub returns-then-not-send-clause-looks : goal.returns-then-not-send-clause-looks
+returns-then-not-send-clause-looks g c =
     looks_after g.S.Store _ _ _ c.loop-known.invariant.0.looks c.in_ok-number.ensures.looks
 
 pub returns-in_err-row-clause-looks : goal.returns-in_err-row-clause-looks

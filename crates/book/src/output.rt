@@ -1,7 +1,7 @@
 //! Outputs, of which some tell how often they failed, and how often they were asked to send.
 ghost use Rattle.std.specs.Prelude.{◌≡◌, ◌<◌, ◌≤◌, ℕ, Option, None, true, false, length, take};
 ghost use Rattle.std.specs.Io.KnownBytes.{Appends, Keeps};
-ghost use Rattle.audit.specs.Failures.{HasFailed, IsAsked};
+ghost use Rattle.book.specs.Output.{HasFailed, IsAsked};
 
 use std::io::Write;
 
