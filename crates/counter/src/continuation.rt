@@ -32,7 +32,8 @@ pub fn continue_in<F: Start + Drop, N: Start + Drop, P: Paths>(
 
     // By the refusal, what was done to the old database, which was closed only where the new path was found free.
     ensures refused { IfErr result (λ fault. (refusal : ContinuationFault) × (fault ≡ fault_of_continuation refusal)
-        × IsRefusedBy ⟦<FileFrom<F> as Disk>⟧ (image_at F.Start) IsOpeningFault (floor_of words.now) refusal
+        × IsRefusedBy ⟦<FileFrom<F> as Disk>⟧ (image_at F.Start) IsOpeningFault IsOpeningFault
+        (floor_of words.now) refusal
         × (HasBegun refusal → IsFreeAt ⟦<FileFrom<Unknown> as Disk>⟧ (image_at ⟦<Unknown as Start>⟧) P.Paths
         new.entry.files.paths.now new.entry.path.now)) }
 {

@@ -1,5 +1,5 @@
 -- How a history goes on in a new book.
-use Rattle.std.proofs.Common.{◌≡◌, ℕ, ◌<◌, ◌≤◌, ◌==◌, ◌&&◌, max, Bool, true, false, not, nat_le, List, []}
+use Rattle.std.proofs.Common.{◌≡◌, ◌⊎◌, ℕ, ◌<◌, ◌≤◌, ◌==◌, ◌&&◌, max, Bool, true, false, not, nat_le, List, []}
 use Rattle.std.proofs.Common.{◌∷◌, ◌++◌, map, reverse, Option, None, Some, option_map, option_to_list, refl, sym, ap, ap₂}
 use Rattle.std.proofs.Common.{◌∙◌, subst, inl, inr, arith, Result, Ok, Err, IfOk, IfErr, append_assoc, if◌then◌else◌, find, length, take, get_or, ◌+◌}
 use Rattle.std.specs.Prelude.{IsOk, OnErr, OnOk}
@@ -14,7 +14,7 @@ use Rattle.book.specs.Continuation.{Floor as Void, all_moments, closed, continue
 use Rattle.book.specs.Continuation.{IsAbove, IsAboveIfAny, identity_since, is_closed, last_reservation, last_stamp}
 use Rattle.book.specs.Continuation.{stamp_with_identity}
 use Rattle.book.specs.Entries.{Appends, FitInTurn, with_all}
-use Rattle.book.specs.Fault.{IsOfStorage}
+use Rattle.book.specs.Fault.{IsOfStorage, count_after}
 use Rattle.book.specs.History.{Entry, Reserved, Installed, Calibrated, Held, History, HoldValue}
 use Rattle.book.specs.History.{CalibrationValue}
 use Rattle.book.specs.History.{ReservationValue, first_of, greatest_of, greatest_serial, holds, last_gen_time}
@@ -28,12 +28,13 @@ use Rattle.book.specs.Sound.{IsSound, greatest_number}
 use Rattle.book.specs.Stands.{OnlyLooks, Stands}
 use Rattle.book.specs.Values.{hold_view, identity_view, stamp_view}
 use Rattle.book.specs.declared.fault.StoreFault.{StoreFault}
+use Rattle.book.specs.declared.fault.StoreFault.TheVariants.{Memory, Database, NotOurs, Full, Backwards}
 use Rattle.book.specs.declared.rows.Stamp.{Stamp}
 use Rattle.book.specs.declared.standing.Standing.{Ghosts}
 use Rattle.book.specs.declared.values.Hold.{Hold}
 use Rattle.desk.specs.Content.{IsSoundInFull}
 use Rattle.desk.specs.Continuation.{IsRestated, IsStated, IsStatedIfAny}
-use Rattle.operations.specs.Continuation.{Carries, Closes, IsCarried}
+use Rattle.operations.specs.Continuation.{Carries, Closes, IsBelow, IsCarried, IsCaused, IsLookFault, IsRefused, IsUnread, count_after_look}
 use Rattle.operations.specs.Continuation.{Reaches, entries_of, entries_of_hold}
 use Rattle.operations.specs.Continuation.{entries_of_holds, entries_of_identity, entries_of_last, entries_of_stamp}
 use Rattle.operations.specs.Continuation.{identity_since_among, last_stamp_of, latest_of, void_in}
@@ -345,9 +346,67 @@ pub fails_as : {X A C E : Type 0} (g : Ghosts X) (Knows : History → Type 0) (o
 fails_as g Knows old new fault closes =
     record { honest = closes.honest; closes = closes.closes; kept = closes.kept; crash = closes.crash }
 
-pub storage_fault : (fault : StoreFault) → IsOfStorage fault → IsOpeningFault fault
-storage_fault fault (inl is) = inl is
-storage_fault fault (inr is) = inr (inl is)
+-- ---- causes
+
+-- of the book's own refusal
+pub caused_by_book : (Refuses : StoreFault → Type 0) (Unread : Type 0) (n m : ℕ) (fault : StoreFault)
+    → IsOfStorage fault → m ≡ count_after fault n → IsCaused Refuses Unread n m fault
+caused_by_book Refuses Unread n m fault (inl is) counts =
+    subst (IsCaused Refuses Unread n m) (sym is) (subst (λ f. m ≡ count_after f n) is counts)
+caused_by_book Refuses Unread n m fault (inr is) counts =
+    subst (IsCaused Refuses Unread n m) (sym is) (inl (subst (λ f. m ≡ count_after f n) is counts))
+
+-- of a making that is refused so
+pub caused_by_making : (Refuses : StoreFault → Type 0) (Unread : Type 0) (n m : ℕ) (fault : StoreFault)
+    → IsOpeningFault fault → m ≡ n → (fault ≡ Memory) ⊎ Refuses fault → IsCaused Refuses Unread n m fault
+caused_by_making Refuses Unread n m Memory is same cause = same
+caused_by_making Refuses Unread n m Database is same (inl memory) = absurd (let apart = memory in cc)
+caused_by_making Refuses Unread n m Database is same (inr refused) = inr (same, refused)
+caused_by_making Refuses Unread n m NotOurs is same (inl memory) = absurd (let apart = memory in cc)
+caused_by_making Refuses Unread n m NotOurs is same (inr refused) = (same, inl refused)
+caused_by_making Refuses Unread n m Full (inl is) same cause = absurd (let apart = is in cc)
+caused_by_making Refuses Unread n m Full (inr (inl is)) same cause = absurd (let apart = is in cc)
+caused_by_making Refuses Unread n m Full (inr (inr is)) same cause = absurd (let apart = is in cc)
+caused_by_making Refuses Unread n m Backwards (inl is) same cause = absurd (let apart = is in cc)
+caused_by_making Refuses Unread n m Backwards (inr (inl is)) same cause = absurd (let apart = is in cc)
+caused_by_making Refuses Unread n m Backwards (inr (inr is)) same cause = absurd (let apart = is in cc)
+
+-- of a look-up
+pub caused_by_look : (Refuses : StoreFault → Type 0) (Unread : Type 0) (n m : ℕ) (fault : StoreFault)
+    → IsOpeningFault fault → m ≡ count_after fault n → (fault ≡ NotOurs → Unread) → IsCaused Refuses Unread n m fault
+caused_by_look Refuses Unread n m fault (inl is) counts unread = caused_by_book Refuses Unread n m fault (inl is) counts
+caused_by_look Refuses Unread n m fault (inr (inl is)) counts unread =
+    caused_by_book Refuses Unread n m fault (inr is) counts
+caused_by_look Refuses Unread n m fault (inr (inr is)) counts unread =
+    subst (IsCaused Refuses Unread n m) (sym is)
+    (subst (λ f. m ≡ count_after f n) is counts, inr (unread is))
+
+-- of makings that are refused so, where those are
+caused_as : (Refuses Refuses' : StoreFault → Type 0) (Unread : Type 0) (n m : ℕ)
+    → ((fault : StoreFault) → Refuses fault → Refuses' fault) → (fault : StoreFault)
+    → IsCaused Refuses Unread n m fault → IsCaused Refuses' Unread n m fault
+caused_as Refuses Refuses' Unread n m tells Memory cause = cause
+caused_as Refuses Refuses' Unread n m tells Database (inl counts) = inl counts
+caused_as Refuses Refuses' Unread n m tells Database (inr refused) = inr (refused.0, tells Database refused.1)
+caused_as Refuses Refuses' Unread n m tells NotOurs (same, inl refused) = (same, inl (tells NotOurs refused))
+caused_as Refuses Refuses' Unread n m tells NotOurs (same, inr unread) = (same, inr unread)
+caused_as Refuses Refuses' Unread n m tells Full cause = absurd cause
+caused_as Refuses Refuses' Unread n m tells Backwards cause = absurd cause
+
+-- what is carried on can't be looked up
+pub refused_look : {X : Type 0} (Refuses : StoreFault → Type 0) (g : Ghosts X) (floor : Option Floor) (old new : X)
+    (fault : ContinuationFault) → IsLookFault fault → OnlyLooks g old new
+    → g.fault_count new ≡ count_after_look fault (g.fault_count old)
+    → (fault ≡ NotAfter → g.honest new → (b : History) → Stands g b old → IsBelow floor b)
+    → (fault ≡ Unclosed NotOurs → g.honest new → (b : History) → Stands g b old → IsUnread floor b)
+    → IsRefused Refuses g floor old new fault
+refused_look Refuses g floor old new (Unopened fault) is looks counts below unread = absurd is
+refused_look Refuses g floor old new (Unclosed fault) is looks counts below unread = (
+  caused_by_look Refuses _ _ _ fault is counts (λ same. unread (ap Unclosed same)),
+  looks,
+)
+refused_look Refuses g floor old new NotAfter is looks counts below unread = (looks, below refl)
+refused_look Refuses g floor old new (Unfinished fault) is looks counts below unread = absurd is
 
 -- ---- a void stamp in place of the last one
 
@@ -423,44 +482,58 @@ where_ok (Err fault) room is = absurd (let apart = room in cc)
 -- ---- both books
 
 -- it is closed for tokens, or that is refused
-abbrev IsClosedSo : {D : Type 0} → Disk D → Image → Option Floor → Result Carried ContinuationFault → Type 0
-IsClosedSo disk held floor done = IsDoneOver disk held (λ g opened left. Carries g floor opened left done)
+abbrev IsClosedSo : {D : Type 0} → Disk D → Image → (StoreFault → Type 0) → Option Floor
+    → Result Carried ContinuationFault → Type 0
+IsClosedSo disk held RefusesMaking floor done =
+    IsDoneOver disk held (λ g opened left. Carries RefusesMaking g floor opened left done)
 
 -- where there is room or a refusal of it is known
 pub closed_so : {D : Type 0} (disk : Disk D) (held : Image) (floor : Option Floor) (room : Result (Unit {0}) StoreFault)
     (done : Result Carried ContinuationFault) → IfErr room IsOpeningFault
-    → IsDoneOver disk held (λ g opened left. IfErr room IsOpeningFault → Carries g floor opened left done)
-    → IsClosedSo disk held floor done
+    → IsDoneOver disk held (λ g opened left. IfErr room IsOpeningFault
+    → Carries (λ fault. room ≡ Err fault) g floor opened left done)
+    → IsClosedSo disk held (λ fault. room ≡ Err fault) floor done
 closed_so disk held floor room done known (opened, found, (left, closes, closed)) =
     (opened, found, (left, closes known, closed))
 
 -- what is told of a closing where it is answered, and where it is refused
-pub closed_in : {D : Type 0} (disk : Disk D) (held : Image) (floor : Option Floor)
-    (done : Result Carried ContinuationFault) → IsClosedSo disk held floor done
-    → IfOk done (λ carried. IsClosedSo disk held floor (Ok carried))
-closed_in disk held floor (Ok carried) closes = closes
-closed_in disk held floor (Err fault) closes = tt
+module _ {D : Type 0} (disk : Disk D) (held : Image) (Making : StoreFault → Type 0) (floor : Option Floor) where
+  pub closed_in : (done : Result Carried ContinuationFault) → IsClosedSo disk held Making floor done
+      → IfOk done (λ carried. IsClosedSo disk held Making floor (Ok carried))
+  closed_in (Ok carried) closes = closes
+  closed_in (Err fault) closes = tt
 
-pub unclosed_in : {D : Type 0} (disk : Disk D) (held : Image) (Refuses : StoreFault → Type 0) (floor : Option Floor)
-    (done : Result Carried ContinuationFault) → IsClosedSo disk held floor done
-    → IfErr done (IsRefusedBy disk held Refuses floor)
-unclosed_in disk held Refuses floor (Ok carried) closes = tt
-unclosed_in disk held Refuses floor (Err (Unopened fault)) (opened, found, (left, refused, closed)) = absurd refused
-unclosed_in disk held Refuses floor (Err (Unclosed fault)) closes = closes
-unclosed_in disk held Refuses floor (Err NotAfter) closes = closes
-unclosed_in disk held Refuses floor (Err (Unfinished fault)) closes = closes
+  pub unclosed_in : (Refuses : StoreFault → Type 0) (done : Result Carried ContinuationFault)
+      → IsClosedSo disk held Making floor done → IfErr done (IsRefusedBy disk held Refuses Making floor)
+  unclosed_in Refuses (Ok carried) closes = tt
+  unclosed_in Refuses (Err (Unopened fault)) (opened, found, (left, refused, closed)) = absurd refused
+  unclosed_in Refuses (Err (Unclosed fault)) closes = closes
+  unclosed_in Refuses (Err NotAfter) closes = closes
+  unclosed_in Refuses (Err (Unfinished fault)) closes = closes
+
+-- where makings that are refused so are refused otherwise too
+pub refused_in : {D : Type 0} (disk : Disk D) (held : Image) (Refuses Making Making' : StoreFault → Type 0)
+    (floor : Option Floor) → ((fault : StoreFault) → Making fault → Making' fault) → (fault : ContinuationFault)
+    → IsRefusedBy disk held Refuses Making floor fault → IsRefusedBy disk held Refuses Making' floor fault
+refused_in disk held Refuses Making Making' floor tells (Unopened fault) refused = refused
+refused_in disk held Refuses Making Making' floor tells (Unclosed fault) (opened, found, (left, refused, closed)) =
+    (opened, found, (left, (caused_as Making Making' _ _ _ tells fault refused.0, refused.1), closed))
+refused_in disk held Refuses Making Making' floor tells NotAfter refused = refused
+refused_in disk held Refuses Making Making' floor tells (Unfinished fault) (opened, found, (left, refused, closed)) =
+    (opened, found, (left, (caused_as Making Making' _ _ _ tells fault refused.0, refused.1), closed))
 
 -- closed, with no new one
-pub unfinished_in : {D : Type 0} (disk : Disk D) (held : Image) (Refuses : StoreFault → Type 0) (floor : Option Floor)
-    (c : Carried) (fault : StoreFault) → IsOpeningFault fault → IsClosedSo disk held floor (Ok c)
-    → IsRefusedBy disk held Refuses floor (Unfinished fault)
-unfinished_in disk held Refuses floor c fault is (opened, found, (left, closes, closed)) = (
+pub unfinished_in : {D : Type 0} (disk : Disk D) (held : Image) (Refuses Making Making' : StoreFault → Type 0)
+    (floor : Option Floor) (c : Carried) (fault : StoreFault) → IsOpeningFault fault
+    → (fault ≡ Memory) ⊎ Making' fault → IsClosedSo disk held Making floor (Ok c)
+    → IsRefusedBy disk held Refuses Making' floor (Unfinished fault)
+unfinished_in disk held Refuses Making Making' floor c fault is cause (opened, found, (left, closes, closed)) = (
   opened,
   found,
   (
     left,
     (
-      is,
+      caused_by_making Making' ⊥ _ _ fault is closes.4 cause,
       record {
         honest = closes.0.honest;
         closes = λ h b s k. tt;
@@ -497,10 +570,10 @@ reaches_from laws (Some floor) (Some s) (Some void) b sound asked above =
       subst (λ n. token_of n (continued (Some void) b) ≡ None) asked.serial on.2,
     )
 
-pub continued_in : {D E : Type 0} (disk : Disk D) (held : Image) (other : Disk E) (floor : Option Floor) (c : Carried)
-    → Laws → IsClosedSo disk held floor (Ok c) → IsMadeOver other (entries_of c)
+pub continued_in : {D E : Type 0} (disk : Disk D) (held : Image) (Making : StoreFault → Type 0) (other : Disk E)
+    (floor : Option Floor) (c : Carried) → Laws → IsClosedSo disk held Making floor (Ok c) → IsMadeOver other (entries_of c)
     → IsContinuedOver disk held other floor
-continued_in disk held other floor c laws (opened, found, (left, closes, closed)) (made, stands, is_open, shut) = (
+continued_in disk held Making other floor c laws (opened, found, (left, closes, closed)) (made, stands, is_open, shut) = (
   opened,
   found,
   (

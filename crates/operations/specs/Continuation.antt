@@ -3,6 +3,7 @@
 use Rattle.std.specs.Prelude.{◌≡◌, ◌⊎◌, ℕ, ◌<◌, ◌≤◌, not, nat_lt, List, [], ◌∷◌, ◌++◌, map, filter, reverse}
 use Rattle.std.specs.Prelude.{Option, None, Some, option_map, if◌then◌else◌, Result, Ok, Err, MatchResult, OnOk, OnErr}
 use Rattle.std.specs.List.{Contains}
+use Rattle.book.specs.Fault.{count_after}
 use Rattle.book.specs.Continuation.{Floor as Void, IsAbove, IsAboveIfAny, closed, continued, entry_if, holds_all}
 use Rattle.book.specs.Continuation.{last_reservation}
 use Rattle.book.specs.History.{Entry, Reserved, Sealed, Calibrated, Held, Installed, History, HoldValue}
@@ -14,6 +15,7 @@ use Rattle.book.specs.Sound.{Along, IsSound}
 use Rattle.book.specs.Stands.{OnlyLooks, Stands}
 use Rattle.book.specs.Values.{calibration_option, hold_view, identity_view, stamp_view}
 use Rattle.book.specs.declared.fault.StoreFault.{StoreFault}
+use Rattle.book.specs.declared.fault.StoreFault.TheVariants.{Memory, Database, NotOurs}
 use Rattle.book.specs.declared.standing.Standing.{Ghosts}
 use Rattle.desk.specs.Closed.{GivesNothingOut, StaysClosed}
 use Rattle.desk.specs.Command.{Command, Setting}
@@ -24,7 +26,7 @@ use Rattle.desk.specs.MachineRuns.{IsRising, Journey}
 use Rattle.desk.specs.MachineStep.{HasEffect}
 use Rattle.desk.specs.Outcome.{Outcome}
 use Rattle.operations.specs.DatabaseFaults.{IsOpeningFault}
-use Rattle.operations.specs.VoidStamp.{IsVoidIfAny, reserved_as, reserved_in_place, void_view}
+use Rattle.operations.specs.VoidStamp.{IsUnreadAfterIfAny, IsVoidIfAny, reserved_as, reserved_in_place, void_view}
 use Rattle.operations.specs.declared.carried.Carried.{Carried}
 use Rattle.operations.specs.declared.fault.ContinuationFault.{ContinuationFault}
 use Rattle.operations.specs.declared.fault.ContinuationFault.TheVariants.{Unopened, Unclosed, NotAfter, Unfinished}
@@ -120,6 +122,25 @@ IsBelow None b = ⊥
 IsBelow (Some floor) b =
     (void : Void) → void.serial ≡ floor.serial → void.gen_time ≡ floor.gen_time → IsAbove void b → ⊥
 
+-- the last stamp's request or TSTInfo can't be read, and such a void stamp would come after it
+abbrev pub IsUnread : Option Floor → History → Type 0
+IsUnread floor b = IsUnreadAfterIfAny floor (last_stamp_of b)
+
+-- Why a call is refused so, by how many faults the book counts before and after it: want of memory counts none, and a
+-- fault of the database one, or it comes of a making that is refused so; and so does what is another's, but where that
+-- is unread.
+abbrev pub IsCaused : (Refuses : StoreFault → Type 0) → (Unread : Type 0) → ℕ → ℕ → StoreFault → Type 0
+IsCaused Refuses Unread before after Memory = after ≡ before
+IsCaused Refuses Unread before after Database =
+    (after ≡ count_after Database before) ⊎ ((after ≡ before) × Refuses Database)
+IsCaused Refuses Unread before after NotOurs = (after ≡ before) × (Refuses NotOurs ⊎ Unread)
+IsCaused Refuses Unread before after fault = ⊥
+
+-- what is carried on can't be looked up by such a cause
+abbrev pub count_after_look : ContinuationFault → ℕ → ℕ
+count_after_look (Unclosed fault) n = count_after fault n
+count_after_look fault n = n
+
 -- how what is carried on can't be looked up
 abbrev pub IsLookFault : ContinuationFault → Type 0
 IsLookFault (Unopened fault) = ⊥
@@ -138,15 +159,19 @@ HasBegun (Unfinished fault) = Unit {0}
 abbrev pub BeginsOnlyIf : {A : Type 0} → Type 0 → Result A ContinuationFault → Type 0
 BeginsOnlyIf Is done = MatchResult done (λ _. Is) (λ fault. HasBegun fault → Is)
 
-module _ {X : Type 0} (g : Ghosts X) (floor : Option Floor) (old new : X) where
-  -- a book that was opened isn't closed, by the refusal
+module _ {X : Type 0} (Refuses : StoreFault → Type 0) (g : Ghosts X) (floor : Option Floor) (old new : X) where
+  -- A book that was opened isn't closed, by the refusal, which is the book's own, or comes of a making that is refused so.
   abbrev pub IsRefused : ContinuationFault → Type 0
   IsRefused (Unopened fault) = ⊥
-  IsRefused (Unclosed fault) = IsOpeningFault fault × OnlyLooks g old new
+  IsRefused (Unclosed fault) =
+      IsCaused Refuses (g.honest new → (b : History) → Stands g b old → IsUnread floor b) (g.fault_count old)
+      (g.fault_count new) fault
+      × OnlyLooks g old new
   IsRefused NotAfter =
       OnlyLooks g old new × (g.honest new → (b : History) → Stands g b old → IsBelow floor b)
   IsRefused (Unfinished fault) =
-      IsOpeningFault fault × Closes {A = Carried} g (λ b. Unit {0}) old new (Err fault)
+      IsCaused Refuses ⊥ (g.fault_count old) (g.fault_count new) fault
+      × Closes {A = Carried} g (λ b. Unit {0}) old new (Err fault)
 
   -- it is closed, and this is what its history has, above what is asked for
   abbrev pub Carries : Result Carried ContinuationFault → Type 0
@@ -154,6 +179,7 @@ module _ {X : Type 0} (g : Ghosts X) (floor : Option Floor) (old new : X) where
       Closes {E = StoreFault} g (λ b. Unit {0}) old new (Ok c) × IsAskedFor floor c
       × (g.honest new → (b : History) → Stands g b old → IsCarried c b)
       × LeavesClosed g old new
+      × (g.fault_count new ≡ g.fault_count old)
   Carries (Err fault) = IsRefused fault
 
 -- ---- both books

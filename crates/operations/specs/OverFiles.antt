@@ -98,7 +98,9 @@ module _ {D : Type 0} (disk : Ghosts D) (held : Image) where
       × (IsHonest over_files left → (b : History) (x : Option Setting) (w : List Told) → Journey b x w
       → HoldsTables b held → GoesOver g (over_tables over_files) b left made))
 
-  -- none was opened, by an opening's refusal, or it isn't closed for tokens, by the refusal
-  abbrev pub IsRefusedBy : (StoreFault → Type 0) → Option Floor → ContinuationFault → Type 0
-  IsRefusedBy Refuses floor (Unopened fault) = Refuses fault
-  IsRefusedBy Refuses floor fault = IsDoneOver (λ g opened left. IsRefused g floor opened left fault)
+  -- none was opened, by an opening's refusal, or it isn't closed for tokens, by the refusal, where a new one's making is
+  -- refused so
+  abbrev pub IsRefusedBy : (Refuses RefusesMaking : StoreFault → Type 0) → Option Floor → ContinuationFault → Type 0
+  IsRefusedBy Refuses RefusesMaking floor (Unopened fault) = Refuses fault
+  IsRefusedBy Refuses RefusesMaking floor fault =
+      IsDoneOver (λ g opened left. IsRefused RefusesMaking g floor opened left fault)

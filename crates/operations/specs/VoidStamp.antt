@@ -83,6 +83,10 @@ IsVoidIfAny (Some floor) last (Some void) = IsVoidFor floor last void
 IsVoidIfAny None last (Some void) = ⊥
 IsVoidIfAny (Some floor) last None = ⊥
 
+abbrev pub IsUnreadAfterIfAny : Option Floor → Option StampRow → Type 0
+IsUnreadAfterIfAny None last = ⊥
+IsUnreadAfterIfAny (Some floor) last = IsUnreadAfter floor last
+
 -- how it can be refused
 abbrev pub IsVoidFault : ContinuationFault → Type 0
 IsVoidFault fault = (fault ≡ NotAfter) ⊎ ((fault ≡ Unclosed Memory) ⊎ (fault ≡ Unclosed NotOurs))

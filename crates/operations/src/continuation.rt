@@ -1,14 +1,14 @@
 //! How the history of a database goes on in a new one.
-ghost use Rattle.std.specs.Prelude.{◌≡◌, ◌⊎◌, reverse, map, option_map, Err, IfOk, IfErr, IsOk, OnOk};
+ghost use Rattle.std.specs.Prelude.{◌≡◌, ◌⊎◌, reverse, map, option_map, Err, IfOk, IfErr, IsOk, MatchResult, OnOk};
 ghost use Rattle.std.specs.Prelude.{Ok};
 ghost use Rattle.std.specs.List.{list_any};
 ghost use Rattle.book.specs.Continuation.{closed, holds_all};
-ghost use Rattle.book.specs.Fault.{IsOfStorage};
+ghost use Rattle.book.specs.Fault.{CountsFaults, IsOfStorage};
 ghost use Rattle.book.specs.History.{History, holds};
 ghost use Rattle.book.specs.Stands.{OnlyLooks, Stands};
 ghost use Rattle.book.specs.Values.{hold_view, stamp_view};
 ghost use Rattle.operations.specs.Continuation.{BeginsOnlyIf, Carries, Closes, IsAskedFor, IsBelow, IsCarried};
-ghost use Rattle.operations.specs.Continuation.{IsLookFault, entries_of, last_stamp_of};
+ghost use Rattle.operations.specs.Continuation.{IsLookFault, IsUnread, count_after_look, entries_of, last_stamp_of};
 ghost use Rattle.operations.specs.DatabaseFaults.{IsOpeningFault};
 ghost use Rattle.operations.specs.OverFiles.{IsContinuedOver, IsDoneOver, IsMadeOver, IsRefusedBy};
 
@@ -52,8 +52,8 @@ pub fn continue_in<F: DatabaseFiles, N: DatabaseFiles>(
         N.Disk.Disk floor) }
 
     // By the refusal, what was done to the old ones.
-    ensures refused { IfErr result (IsRefusedBy F.Disk.Disk F.held
-        (F.refuses old.entry.files old.entry.path.now) floor) }
+    ensures refused { IfErr result (IsRefusedBy F.Disk.Disk F.held (F.refuses old.entry.files old.entry.path.now)
+        (N.refuses_making new.entry.files new.entry.path.now) floor) }
 
     // The old one is closed only where the new path was found free.
     ensures free { BeginsOnlyIf (N.is_free new.entry.files new.entry.path.now) result }
@@ -84,7 +84,7 @@ impl Operation<(), ()> for Closing {
     ghost answers = { λ closing _ _ _ _ done. BeginsOnlyIf (IsOk closing.room) done };
 
     ghost moves = { λ _ g closing old new _ _ _ _ done. IfErr closing.room IsOpeningFault
-        → Carries g closing.floor old new done };
+        → Carries (λ fault. closing.room ≡ Err fault) g closing.floor old new done };
 
     fn perform<B: Book + Drop>(
         self,
@@ -107,9 +107,9 @@ fn close_at<F: DatabaseFiles>(
 ) -> Result<Carried, ContinuationFault>
     requires { IfErr closing.room IsOpeningFault }
     ensures closed { IfOk result (λ carried. IsDoneOver F.Disk.Disk F.held (λ g opened left.
-        Carries g closing.floor opened left (Ok carried))) }
+        Carries (λ fault. closing.room ≡ Err fault) g closing.floor opened left (Ok carried))) }
     ensures refused { IfErr result (IsRefusedBy F.Disk.Disk F.held
-        (F.refuses database.entry.files database.entry.path.now) closing.floor) }
+        (F.refuses database.entry.files database.entry.path.now) (λ fault. closing.room ≡ Err fault) closing.floor) }
     ensures room { BeginsOnlyIf (IsOk closing.room) result }
 {
     match perform_at(alloc, database, closing, &mut (), &mut ()) {
@@ -124,7 +124,8 @@ fn carry<B: Book>(
     book: &mut B,
     closing: Closing,
 ) -> Result<Carried, ContinuationFault>
-    ensures done { IfErr closing.room IsOpeningFault → Carries B.Standing closing.floor book.old book.new result }
+    ensures done { IfErr closing.room IsOpeningFault → Carries (λ fault. closing.room ≡ Err fault) B.Standing
+        closing.floor book.old book.new result }
     ensures room { BeginsOnlyIf (IsOk closing.room) result }
 {
     let carried = look_up(alloc, book, closing.floor)?;
@@ -149,7 +150,11 @@ fn look_up<B: Book>(
     ensures asked { IfOk result (IsAskedFor floor) }
     ensures none { result ≡ Err ContinuationFault.NotAfter → B.honest book.new → (b : History)
         → Stands B.Standing b book.old → IsBelow floor b }
+    ensures unread { result ≡ Err (ContinuationFault.Unclosed StoreFault.NotOurs) → B.honest book.new → (b : History)
+        → Stands B.Standing b book.old → IsUnread floor b }
     ensures refusals { IfErr result IsLookFault }
+    ensures faults { MatchResult result (λ _. B.fault_count book.new ≡ B.fault_count book.old)
+        (λ e. B.fault_count book.new ≡ count_after_look e (B.fault_count book.old)) }
 {
     let calibration = book.calibration()?;
     let holds = book.holds()?;
@@ -170,6 +175,7 @@ fn last_stamp<B: Book>(book: &mut B) -> Result<Option<Stamp>, StoreFault>
     ensures value { B.honest book.new → (b : History) → Stands B.Standing b book.old
         → IfOk result (λ stamp. option_map stamp_view stamp ≡ last_stamp_of b) }
     ensures refusals { IfErr result IsOfStorage }
+    ensures faults { CountsFaults result (B.fault_count book.old) (B.fault_count book.new) }
 {
     let last = book.last()?;
     book.next_stamp(last.serial, last.serial)
@@ -184,6 +190,7 @@ fn close_for_tokens<B: Book>(book: &mut B, held: &[Hold]) -> Result<(), StoreFau
         → Stands B.Standing b book.old → map hold_view held.now ≡ reverse (holds b)
         → (B.leaves book.old left → B.holds left b) → OnOk result (B.holds left (closed b)) }
     ensures refusals { IfErr result IsOfStorage }
+    ensures faults { CountsFaults result (B.fault_count book.old) (B.fault_count book.new) }
 {
     if is_closed(held) {
         return Ok(());

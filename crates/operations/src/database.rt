@@ -72,6 +72,7 @@ pub trait DatabaseFiles: Drop {
     /// Whether one can be made at a path, as far as can be seen before: refused as `make` is.
     fn may_make(&self, path: &str) -> Result<(), StoreFault>
         ensures free { OnOk result (is_free self.now path.now) }
+        ensures refused { IfErr result (refuses_making self.now path.now) }
         ensures refusals { IfErr result IsOpeningFault };
 
     /// Takes the database at a path to the schema of now, in one commit: each row is kept. Refused as `open` is.

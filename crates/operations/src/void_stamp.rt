@@ -5,7 +5,7 @@ ghost use Rattle.book.specs.Sound.{greatest_number};
 ghost use Rattle.book.specs.Values.{reservation_view, stamp_view};
 ghost use Rattle.desk.specs.Continuation.{IsRestated};
 ghost use Rattle.operations.specs.VoidStamp.{ComesAfter, IsNoneAfter, IsNoneAfterIfAny, IsVoidFault, void_view};
-ghost use Rattle.operations.specs.VoidStamp.{IsUnreadable, IsUnreadAfter, IsVoidFor, IsVoidIfAny, reserved_as};
+ghost use Rattle.operations.specs.VoidStamp.{IsUnreadable, IsUnreadAfter, IsUnreadAfterIfAny, IsVoidFor, IsVoidIfAny, reserved_as};
 ghost use Rattle.operations.specs.VoidStamp.{reserved_in_place, void_of};
 
 use crate::fault::ContinuationFault;
@@ -90,6 +90,8 @@ pub(crate) fn void_for(
         (option_map void_view void)) }
     ensures none { (result ≡ Err ContinuationFault.NotAfter)
         ↔ IsNoneAfterIfAny floor (option_map (λ s. stamp_view s.now) last.entry) }
+    ensures unread { (result ≡ Err (ContinuationFault.Unclosed StoreFault.NotOurs))
+        ↔ IsUnreadAfterIfAny floor (option_map (λ s. stamp_view s.now) last.entry) }
     ensures refusals { IfErr result IsVoidFault }
 {
     match floor {

@@ -1,7 +1,8 @@
 use Rattle.std.proofs.Common.{◌≡◌, ◌∙◌, Err, Ok, ap, map, reverse}
+use Rattle.book.specs.Fault.{count_after}
 use Rattle.book.specs.History.{holds}
 use Rattle.book.specs.Values.{hold_view}
-use Rattle.operations.proofs.GoingOn.{closes_as, fails_as, known_from, storage_fault}
+use Rattle.operations.proofs.GoingOn.{caused_by_book, caused_by_making, closes_as, fails_as, known_from, refused_look}
 use Rattle.operations.proofs.continuation.carry.Goals as goal
 
 pub returns-in-Ok-clause-done : goal.returns-in-Ok-clause-done
@@ -18,16 +19,24 @@ returns-in-Ok-clause-done g c = λ known.
       λ h l leaves b s. done.settled h l leaves b (found.looks.stands b s)
           (held ∙ (found.value (done.closes.honest h) b s).holds)
           (λ before. found.settled (done.closes.honest h) l before b s),
+      done.faults ∙ found.faults,
     )
 
 pub returns-in-Err-clause-done : goal.returns-in-Err-clause-done
 returns-in-Err-clause-done g c = λ known.
     let found = c.in_ok-carried.ensures in
     let refused = c.in-Err in (
-      storage_fault refused.refused refused.ensures.refusals,
+      caused_by_book _ _ _ _ refused.refused refused.ensures.refusals
+          (refused.ensures.faults ∙ ap (count_after refused.refused) found.faults),
       known_from g.B.Standing (λ b. map hold_view c.as_slice.result.now ≡ reverse (holds b)) _ c.args.book.now
           c.look_up.new.book c.close_for_tokens.new.book (Err refused.refused) found.looks
           (λ honest b s k. ap (map hold_view) c.as_slice.ensures.value ∙ (found.value honest b s).holds)
           (fails_as g.B.Standing _ c.look_up.new.book c.close_for_tokens.new.book refused.refused
           refused.ensures.closes),
     )
+
+pub returns-in_err-carried-clause-done : goal.returns-in_err-carried-clause-done
+returns-in_err-carried-clause-done g c = λ known.
+    let refused = c.in_err-carried.ensures in
+    refused_look _ g.B.Standing _ c.args.book.now c.look_up.new.book _ refused.refusals refused.looks refused.faults
+    (λ is. refused.none (ap Err is)) (λ is. refused.unread (ap Err is))
