@@ -169,12 +169,12 @@ end_then (Some x) (Some y) (Some z) bs (d ∷ cs) first second end =
     absurd (omega (arith, ap length second, ap length end))
 
 -- what a stream tells that told its octets before
-end_of_told : (a b c : Option (List ℕ)) (bs : List ℕ) → Consumes a b bs → OnSome b (IsAtEnd c) → OnSome a (IsAtEnd c)
+pub end_of_told : (a b c : Option (List ℕ)) (bs : List ℕ) → Consumes a b bs → OnSome b (IsAtEnd c) → OnSome a (IsAtEnd c)
 end_of_told None b c bs first end = tt
 end_of_told (Some x) None c bs first end = absurd first
 end_of_told (Some x) (Some y) c bs first end = end
 
-told_end : (a b : Option (List ℕ)) → IsAtEnd b → OnSome a (IsAtEnd b)
+pub told_end : (a b : Option (List ℕ)) → IsAtEnd b → OnSome a (IsAtEnd b)
 told_end None b end = tt
 told_end (Some x) b end = end
 
@@ -442,7 +442,7 @@ one_read remaining fails old new (Err fault) receives none_lost kept taken fine 
 }
 
 -- one that is taken out of a list
-pub taken_out : {W S : Type 0} (place_of : W → Place S) (old new : List W) (place : ℕ) (one : W) → place < length old
+pub taken_out : {W P : Type 0} (place_of : W → P) (old new : List W) (place : ℕ) (one : W) → place < length old
     → one ≡ get_or old place one → new ≡ take place old ++ drop (place + 1) old
     → IsTakenOut place (place_of one) (map place_of old) (map place_of new)
 taken_out place_of old new place one within is rest =
@@ -460,8 +460,8 @@ taken_out place_of old new place one within is rest =
     }
 
 -- what holds of the one that has that place
-pub holds_of_taken : {S : Type 0} (Holds : Place S → Type 0) (place : ℕ) (one : Place S) (all new : List (Place S))
-    → IsTakenOut place one all new → IsAt place Holds all → Holds one
+pub holds_of_taken : {P : Type 0} (Holds : P → Type 0) (place : ℕ) (one : P) (all new : List P)
+    → IsTakenOut place one all new → IsAt place all Holds → Holds one
 holds_of_taken Holds place one all new out at =
     let taken_is : get_or all place one ≡ one =
     ap (λ xs. get_or xs place one) out.stood
@@ -470,8 +470,8 @@ holds_of_taken Holds place one all new out at =
     subst Holds taken_is (at.holds one)
 
 -- what holds of one that a list has
-pub at_place : {W S : Type 0} (place_of : W → Place S) (Holds : Place S → Type 0) (all : List W) (place : ℕ) (one : W)
-    → place < length all → one ≡ get_or all place one → Holds (place_of one) → IsAt place Holds (map place_of all)
+pub at_place : {W P : Type 0} (place_of : W → P) (Holds : P → Type 0) (all : List W) (place : ℕ) (one : W)
+    → place < length all → one ≡ get_or all place one → Holds (place_of one) → IsAt place (map place_of all) Holds
 at_place place_of Holds all place one within is holds = record {
   within = omega (arith, within, length-map all place_of);
   holds = λ other. subst Holds (sym (get_or-map place_of all place one other within))
@@ -524,7 +524,7 @@ heard_same items i one was received stream taken failed =
 -- one is taken out of its place of which this holds
 pub takes_one : {S : Type 0} (remaining : S → Option (List ℕ)) (fails : S → Type 0) (Holds : Place S → Type 0)
     (old mid new : List (Place S)) → AreReadOn remaining fails old mid → (place : ℕ) (one : Place S)
-    → IsTakenOut place one mid new → IsAt place Holds mid → TakesOne remaining fails Holds old one new
+    → IsTakenOut place one mid new → IsAt place mid Holds → TakesOne remaining fails Holds old one new
 takes_one remaining fails Holds old mid new read place one out at = record {
   last = mid;
   read = read;
@@ -535,7 +535,7 @@ takes_one remaining fails Holds old mid new read place one out at = record {
 
 -- the first gives way
 pub given_up : {S : Type 0} (now : ℕ) (old new : List (Place S)) (first : Place S) → IsTakenOut 0 first old new
-    → IsAt 0 (MayGiveWay now) old → IsGivenUp now old new
+    → IsAt 0 old (MayGiveWay now) → IsGivenUp now old new
 given_up now old new first out at =
     record { first = first; out = out; may = holds_of_taken (MayGiveWay now) 0 first old new out at }
 

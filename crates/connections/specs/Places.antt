@@ -60,14 +60,14 @@ pub record MayGiveWay {S : Type 0} (now : ℕ) (one : Place S) : Type 0 where
   pub waited : one.taken + place_time ≤ now
 
 -- one has that place, and this holds of it
-pub record IsAt {S : Type 0} (place : ℕ) (Holds : Place S → Type 0) (all : List (Place S)) : Type 0 where
+pub record IsAt {A : Type 0} (place : ℕ) (all : List A) (Holds : A → Type 0) : Type 0 where
   pub within : place < length all
-  pub holds : (other : Place S) → Holds (slice_index_or all place other)
+  pub holds : (other : A) → Holds (slice_index_or all place other)
 
 -- One is taken out of its place, behind so many others. These and those behind it stay as they are.
-pub record IsTakenOut {S : Type 0} (place : ℕ) (one : Place S) (old new : List (Place S)) : Type 0 where
-  pub before : List (Place S)
-  pub behind : List (Place S)
+pub record IsTakenOut {A : Type 0} (place : ℕ) (one : A) (old new : List A) : Type 0 where
+  pub before : List A
+  pub behind : List A
   pub stood : old ≡ before ++ (one ∷ behind)
   pub there : length before ≡ place
   pub stay : new ≡ before ++ behind

@@ -1,6 +1,5 @@
 //! A connection that was answered, and whose client may still send.
-ghost use Rattle.std.specs.Prelude.{◌≡◌, ◌<◌, IfSome};
-ghost use Rattle.connections.specs.Closing.{IsCounted};
+ghost use Rattle.std.specs.Prelude.{◌<◌};
 
 use crate::acceptor::Connection;
 use crate::peer::Peer;
@@ -26,94 +25,97 @@ pub(crate) struct Closing<S> {
     pub(crate) peer: Peer<S>,
     /// When it has had its time.
     end: Instant,
-    /// When the next octet has to have come.
-    until: Instant,
+    /// When the last octet came.
+    heard: Instant,
     dropped: usize,
+    /// Its input has ended, or it can't be waited for.
+    has_ended: bool,
     ghost few: { dropped < 16_781_312 },
 }
 
-/// When the next octet has to have come.
-fn until(now: Instant) -> Option<Instant> {
-    now.checked_add(Duration::from_secs(DROP_SECONDS))
-}
+impl<S> Closing<S> {
+    ghost use Rattle.std.specs.Prelude.{◌≡◌, true};
+    ghost use Rattle.std.specs.Time.{instant_nanos};
+    ghost use Rattle.connections.specs.Closing.{IsOver, ending_of};
 
-impl<S: Drop> Closing<S> {
-    /// Nothing is dropped yet. None where there is no such moment.
-    pub(crate) fn new(peer: Peer<S>, end: Instant, now: Instant) -> Option<Closing<S>>
-        ensures peer { IfSome result (λ closing. closing.peer.stream ≡ peer.stream) }
-        ensures none { IfSome result (λ closing. closing.dropped ≡ 0) }
+    /// Nothing is dropped yet.
+    pub(crate) fn new(peer: Peer<S>, end: Instant, now: Instant) -> Closing<S>
+        ensures { result.peer.stream ≡ peer.stream }
     {
         let mut peer = peer;
         peer.is_ready = true;
-        Some(Closing {
+        Closing {
             peer,
             end,
-            until: until(now)?,
+            heard: now,
             dropped: 0,
-        })
+            has_ended: false,
+        }
     }
-}
 
-impl<S> Closing<S> {
+    /// How long the next octet is waited for still.
+    fn waits(&self, now: Instant) -> Duration {
+        Duration::from_secs(DROP_SECONDS).saturating_sub(now.duration_since(self.heard))
+    }
+
     /// The time until it is to be looked at again.
     pub(crate) fn left(&self, now: Instant) -> Duration {
         if self.peer.is_ready {
             Duration::ZERO
         } else {
-            self.end.min(self.until).duration_since(now)
+            self.waits(now).min(self.end.duration_since(now))
         }
+    }
+
+    /// Whether it can be closed.
+    pub(crate) fn is_over(&self, now: Instant) -> bool
+        ensures { result ≡ true → IsOver (instant_nanos now) (ending_of self.now) }
+    {
+        self.has_ended
+            || self.dropped >= MOST_DROPPED
+            || self.end <= now
+            || self.waits(now).is_zero()
     }
 }
 
 impl<S: Connection> Closing<S> {
-    /// Drops what is there, and tells whether it can be closed.
-    pub(crate) fn is_done(&mut self, registry: &Registry, now: Instant) -> bool
-        ensures counted { IsCounted (S.remaining self.old.peer.stream) (S.remaining self.new.peer.stream)
-            self.old.dropped self.new.dropped }
-    {
-        if self.peer.is_ready && self.drop_some(registry, now) {
-            return true;
-        }
-        self.end <= now || self.until <= now
-    }
+    ghost use Rattle.std.specs.Prelude.{◌≡◌, false};
+    ghost use Rattle.std.specs.Time.{instant_nanos};
+    ghost use Rattle.connections.specs.Closing.{IsDroppedOn, ending_of};
 
-    /// Reads once and drops what came: how many octets.
-    fn drop_once(&mut self) -> Result<usize, ErrorKind>
-        requires { self.old.dropped < 16_777_216 }
-        ensures counted { IsCounted (S.remaining self.old.peer.stream) (S.remaining self.new.peer.stream)
-            self.old.dropped self.new.dropped }
+    /// Reads once and drops what came.
+    fn drop_once(&mut self, registry: &Registry, now: Instant)
+        requires few { self.old.dropped < 16_777_216 }
+        requires fresh { self.old.has_ended ≡ false }
+        ensures { IsDroppedOn S.remaining S.fails (λ moment. moment ≡ instant_nanos now)
+            (ending_of self.old) (ending_of self.new) }
     {
         let mut room = [0u8; 4096];
         match self.peer.stream.read(&mut room) {
+            Ok(0) => self.has_ended = true,
             Ok(taken) => {
                 self.dropped += taken;
-                Ok(taken)
+                self.heard = now;
             }
-            Err(error) => Err(error.kind()),
+            Err(error) if error.kind() == ErrorKind::WouldBlock => {
+                self.has_ended = self.peer.wait(registry).is_err();
+            }
+            // Behind a failure the input ends.
+            Err(_) => {}
         }
     }
 
-    /// Reads and drops what is there; whether it is the last.
-    #[tactic(auto, using(crate::proofs::ClosingLemmas::counted_none, crate::proofs::ClosingLemmas::counted_then))]
-    fn drop_some(&mut self, registry: &Registry, now: Instant) -> bool
-        ensures counted { IsCounted (S.remaining self.old.peer.stream) (S.remaining self.new.peer.stream)
-            self.old.dropped self.new.dropped }
+    /// Reads and drops what is there.
+    #[tactic(auto, using(crate::proofs::ClosingLemmas::dropped_still, crate::proofs::ClosingLemmas::dropped_then))]
+    pub(crate) fn drop_some(&mut self, registry: &Registry, now: Instant)
+        ensures { IsDroppedOn S.remaining S.fails (λ moment. moment ≡ instant_nanos now)
+            (ending_of self.old) (ending_of self.new) }
     {
         for _ in 0..MOST_READS {
-            if self.dropped >= MOST_DROPPED {
-                return true;
+            if self.has_ended || self.dropped >= MOST_DROPPED || !self.peer.is_ready {
+                return;
             }
-            match self.drop_once() {
-                Ok(0) => return true,
-                Ok(_) => {}
-                Err(ErrorKind::WouldBlock) => return self.peer.wait(registry).is_err(),
-                Err(_) => return true,
-            }
-            match until(now) {
-                Some(until) => self.until = until,
-                None => return true,
-            }
+            self.drop_once(registry, now);
         }
-        false
     }
 }

@@ -1,10 +1,12 @@
 //! What accepts connections, and those of them that are read side by side.
-ghost use Rattle.std.specs.Prelude.{◌≡◌, ◌<◌, true, false, [], length, None, IfOk, MatchOption, MatchResult};
+ghost use Rattle.std.specs.Prelude.{◌≡◌, ◌<◌, true, false, [], length, map, None, IfOk, IfSome, MatchOption};
+ghost use Rattle.std.specs.Prelude.{MatchResult};
+ghost use Rattle.std.specs.List.{AllZip};
 ghost use Rattle.std.specs.Time.{instant_nanos};
 ghost use Rattle.connections.specs.Acceptor.{WasShort};
-ghost use Rattle.connections.specs.Closing.{IsFinished};
+ghost use Rattle.connections.specs.Closing.{AreClosed, IsDroppedOn, IsFinished, IsOver, ending_of};
 ghost use Rattle.connections.specs.Places.{AreAdded, AreAllUnfinished, AreRounds, AreWaitedFor, FailsOne, GivesOne};
-ghost use Rattle.connections.specs.Places.{HandsOut, IsFailure, most_places};
+ghost use Rattle.connections.specs.Places.{HandsOut, IsAt, IsFailure, most_places};
 ghost use Rattle.connections.specs.Waiting.{ComesOf, Takes, intake, most_of, place_of, places_of};
 
 use crate::acceptor::{Accepted, Acceptor, Connection};
@@ -21,7 +23,6 @@ use service::{Exchanged, Request, Routes, Served};
 use sockets::Duplex;
 use std::alloc::Global;
 use std::io;
-use std::io::ErrorKind;
 use std::net::{Net, Shutdown};
 use std::time::{Clock, Duration, Instant};
 
@@ -62,7 +63,9 @@ pub struct Listening<'l, A: Acceptor + Drop, R> {
 }
 
 /// Those of a token may have something to be read.
-fn hear<S>(closing: &mut [Closing<S>], token: Token) {
+fn hear<S>(closing: &mut [Closing<S>], token: Token)
+    ensures { map ending_of closing.new ≡ map ending_of closing.old }
+{
     for one in closing.iter_mut() {
         one.peer.hear(token);
     }
@@ -70,7 +73,8 @@ fn hear<S>(closing: &mut [Closing<S>], token: Token) {
 
 /// Those of which the system told may have something. Whether it told of the listener.
 fn hear_events<S>(events: &Events, places: &mut Places<S>, closing: &mut [Closing<S>]) -> bool
-    ensures { places_of places.new ≡ places_of places.old }
+    ensures places { places_of places.new ≡ places_of places.old }
+    ensures closing { map ending_of closing.new ≡ map ending_of closing.old }
 {
     let mut is_ready = false;
     for event in events {
@@ -101,9 +105,14 @@ fn first_closed<S: Connection>(
     closing: &mut [Closing<S>],
     registry: &Registry,
     now: Instant,
-) -> Option<usize> {
-    for (place, one) in closing.iter_mut().enumerate() {
-        if one.is_done(registry, now) {
+) -> Option<usize>
+    ensures dropped { AllZip (IsDroppedOn S.remaining S.fails (λ moment. moment ≡ instant_nanos now))
+        (map ending_of closing.old) (map ending_of closing.new) }
+    ensures over { IfSome result (λ place. IsAt place (map ending_of closing.new) (IsOver (instant_nanos now))) }
+{
+    for place in 0..closing.len() {
+        closing[place].drop_some(registry, now);
+        if closing[place].is_over(now) {
             return Some(place);
         }
     }
@@ -335,18 +344,18 @@ impl<'l, A: Acceptor + Drop, R: AllocGlobal + Clock + Timer> Listening<'l, A, R>
         let now = Instant::now(self.rt)?;
         peer.stream.shutdown(Shutdown::Write)?;
         peer.stream.set_nonblocking(true)?;
-        let Some(closing) = Closing::new(peer, end, now) else {
-            return Err(io::Error::from(ErrorKind::InvalidInput));
-        };
         if self.closing.len() >= MOST_CLOSING {
             let _ = self.closing.remove(0);
         }
-        self.closing.push(closing)?;
+        self.closing.push(Closing::new(peer, end, now))?;
         Ok(())
     }
 
     /// Drops what is there of the connections that are being closed.
     fn close_some(&mut self, now: Instant)
+        requires shown { R.shows (instant_nanos now) }
+        ensures closed { AreClosed A.Stream.remaining A.Stream.fails R.shows (map ending_of self.old.closing.items)
+            (map ending_of self.new.closing.items) }
         ensures acceptor { self.new.acceptor ≡ self.old.acceptor }
         ensures places { places_of self.new.places ≡ places_of self.old.places }
     {
@@ -362,6 +371,8 @@ impl<'l, A: Acceptor + Drop, R: AllocGlobal + Clock + Timer> Listening<'l, A, R>
 
     /// Waits until the connections that are being closed can be, or as long as it can be waited.
     pub(crate) fn finish(&mut self)
+        ensures closed { AreClosed A.Stream.remaining A.Stream.fails R.shows (map ending_of self.old.closing.items)
+            (map ending_of self.new.closing.items) }
         ensures places { places_of self.new.places ≡ places_of self.old.places }
         ensures finished { IsFinished A.tells (self.new.closing.items ≡ []) self.old.acceptor self.new.acceptor }
     {
@@ -378,6 +389,8 @@ impl<'l, A: Acceptor + Drop, R: AllocGlobal + Clock + Timer> Listening<'l, A, R>
 
     /// Drops what is there of the connections that are being closed, as long as the clock can be read.
     fn close_now(&mut self)
+        ensures closed { AreClosed A.Stream.remaining A.Stream.fails R.shows (map ending_of self.old.closing.items)
+            (map ending_of self.new.closing.items) }
         ensures acceptor { self.new.acceptor ≡ self.old.acceptor }
         ensures places { places_of self.new.places ≡ places_of self.old.places }
     {
@@ -415,6 +428,7 @@ impl<'l, A: Acceptor + Drop, R: AllocGlobal + Clock + Timer> Listening<'l, A, R>
         ensures told { MatchResult result (λ waited. A.tells self.old.acceptor Accepted.Nothing self.new.acceptor)
             (λ error. A.tells self.old.acceptor Accepted.Failed self.new.acceptor) }
         ensures places { places_of self.new.places ≡ places_of self.old.places }
+        ensures closing { map ending_of self.new.closing.items ≡ map ending_of self.old.closing.items }
     {
         let left = self.left(most);
         self.acceptor.wait(&mut self.poll, &mut self.events, left)?;
@@ -426,6 +440,7 @@ impl<'l, A: Acceptor + Drop, R: AllocGlobal + Clock + Timer> Listening<'l, A, R>
     fn hear_all(&mut self)
         ensures acceptor { self.new.acceptor ≡ self.old.acceptor }
         ensures places { places_of self.new.places ≡ places_of self.old.places }
+        ensures closing { map ending_of self.new.closing.items ≡ map ending_of self.old.closing.items }
     {
         if hear_events(&self.events, &mut self.places, &mut self.closing) {
             self.is_ready = true;

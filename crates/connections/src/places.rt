@@ -71,7 +71,7 @@ impl<S> Places<S> {
     /// its request is whole.
     pub(crate) fn first_keeps(&self, now: Instant) -> Option<Duration>
         ensures { IfSome result (λ left. as_nanos left ≡ 0
-            → IsAt 0 (MayGiveWay (instant_nanos now)) (places_of self.now)) }
+            → IsAt 0 (places_of self.now) (MayGiveWay (instant_nanos now))) }
     {
         match self.waiting.first() {
             Some(first) if !is_whole(&first.request) => Some(first.left_of(PLACE_SECONDS, now)),
@@ -131,7 +131,7 @@ impl<S: Connection + Drop> Places<S> {
     ) -> Option<(usize, bool)>
         ensures read { AreReadOn S.remaining S.fails (places_of self.old) (places_of self.new) }
         ensures done { IfSome result
-            (λ done. IsAt done.0 (IsDoneBy (instant_nanos now) done.1) (places_of self.new)) }
+            (λ done. IsAt done.0 (places_of self.new) (IsDoneBy (instant_nanos now) done.1)) }
     {
         for place in 0..self.waiting.len() {
             self.waiting[place].read(routes, registry);
@@ -149,7 +149,7 @@ impl<S: Connection + Drop> Places<S> {
     fn first_whole(&mut self, routes: &Routes, registry: &Registry) -> Option<usize>
         ensures read { AreReadOn S.remaining S.fails (places_of self.old) (places_of self.new) }
         ensures whole { MatchOption result (AllByRecursion (λ one. IsUnfinished one.received) (places_of self.new))
-            (λ place. IsAt place (λ one. IsWhole one.received) (places_of self.new)) }
+            (λ place. IsAt place (places_of self.new) (λ one. IsWhole one.received)) }
     {
         for place in 0..self.waiting.len() {
             self.waiting[place].read(routes, registry);

@@ -1,6 +1,6 @@
 //! Connections whose requests are whole, one after the other.
-ghost use Rattle.std.specs.Prelude.{◌≡◌, ◌<◌, ◌≤◌, [], IfOk, OnErr, OnOk};
-ghost use Rattle.connections.specs.Closing.{IsFinished};
+ghost use Rattle.std.specs.Prelude.{◌≡◌, ◌<◌, ◌≤◌, [], map, IfOk, OnErr, OnOk};
+ghost use Rattle.connections.specs.Closing.{AreClosed, IsFinished, ending_of};
 ghost use Rattle.connections.specs.Heard.{AreHeard, IsDropped, IsHeard, StopsHearing, hall};
 ghost use Rattle.connections.specs.Run.{ServesEach};
 ghost use Rattle.connections.specs.Waiting.{places_of};
@@ -146,6 +146,8 @@ pub fn serve_connections<
     // then it is waited until the last of them are closed, which takes no other
     ensures heard { OnOk result ((last : _)
         × IsFinished A.tells (listening.new.closing.items ≡ []) last.acceptor listening.new.acceptor
+        × AreClosed A.Stream.remaining A.Stream.fails R.shows (map ending_of last.closing.items)
+        (map ending_of listening.new.closing.items)
         × (places_of listening.new.places ≡ places_of last.places)
         × AreHeard ⟦<Listening<'l, A, R> as Hearing>⟧.hands ⟦<Listening<'l, A, R> as Hearing>⟧.fails
         ⟦<Listening<'l, A, R> as Hearing>⟧.stays ⟦<Listening<'l, A, R> as Hearing>⟧.takes_back

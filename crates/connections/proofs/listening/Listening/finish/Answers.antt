@@ -23,4 +23,5 @@ loop-round-preserved g c =
         omega (arith, often, length-append waited (Nothing ∷ [])),
         told_then g.A.Acceptor.tells start mid new waited (Nothing ∷ []) all (new, (c.in-Ok.ensures.told, refl)),
       ),
+      ?,
     )

@@ -12,7 +12,7 @@ returns-then-is_whole g c =
     takes_one g.S.Read.remaining g.S.Connection.fails (λ one. IsWhole one.received) (places_of c.args.self.now) mid
     (places_of c.remove-one.new.self) c.first_done.ensures.read place (place_of c.remove-one.result)
     c.remove-one.ensures
-    (subst (λ told. IsAt place (IsDoneBy (instant_nanos c.args.now) told) mid) c.if-is_whole.true
+    (subst (λ told. IsAt place mid (IsDoneBy (instant_nanos c.args.now) told)) c.if-is_whole.true
     c.in_ok-place.ensures.done)
 
 pub returns-else-is_whole : goal.returns-else-is_whole
@@ -23,6 +23,6 @@ returns-else-is_whole g c =
       takes_one g.S.Read.remaining g.S.Connection.fails (IsLost (instant_nanos c.args.now))
           (places_of c.args.self.now) mid (places_of c.remove-one.new.self) c.first_done.ensures.read place
           (place_of c.remove-one.result) c.remove-one.ensures
-          (subst (λ told. IsAt place (IsDoneBy (instant_nanos c.args.now) told) mid) c.if-is_whole.false
+          (subst (λ told. IsAt place mid (IsDoneBy (instant_nanos c.args.now) told)) c.if-is_whole.false
           c.in_ok-place.ensures.done),
     )
