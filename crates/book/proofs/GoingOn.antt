@@ -1,29 +1,20 @@
 -- A history that goes on in a new book shows what the old one does of the clock, the holds, the identity and the last
 -- stamp.
-use Rattle.std.proofs.Common.{◌≡◌, ℕ, ℤ, ◌==◌, ◌<◌, ◌≤◌, ◌<ℤ◌, int_le, int_lt, Bool, true, false, not, ◌&&◌, ◌||◌}
-use Rattle.std.proofs.Common.{cond, List, [], ◌∷◌, ◌++◌, map, filter, reverse, find, Option, Some, None, option_map}
+use Rattle.std.proofs.Common.{◌≡◌, ℕ, ℤ, ◌==◌, ◌<◌, ◌≤◌, ◌<ℤ◌, int_le, int_lt, Bool, true, false, not, ◌&&◌, ◌||◌, cond}
+use Rattle.std.proofs.Common.{List, [], ◌∷◌, ◌++◌, map, filter, reverse, find, Option, Some, None, option_map}
 use Rattle.std.proofs.Common.{option_and_then, pos, refl, sym, ap, ◌∙◌, subst, arith}
-use Rattle.std.specs.List.{list_any, AllByRecursion}
-use Rattle.std.specs.Option.{option_or}
-use Rattle.std.proofs.Math.Nat.{max-eq_left}
-use Rattle.std.proofs.lemmas.Bool.{eq-eqb}
-use Rattle.std.proofs.lemmas.Grind.{reverse_onto}
-use Rattle.std.proofs.lemmas.Int.{ints}
-use Rattle.std.proofs.lemmas.List.{append-nil, reverse-reverse}
+use Rattle.std.{specs.List.list_any, specs.List.AllByRecursion, specs.Option.option_or, proofs.Math.Nat.max-eq_left}
+use Rattle.std.proofs.lemmas.{Bool.eq-eqb, Int.ints, Grind.reverse_onto, List.append-nil, List.reverse-reverse}
 use Rattle.gentime.specs.GenTime.{last_moment}
 use Rattle.book.specs.Continuation.{holds_all, is_closed, all_moments, closed, other_holds, last_reservation}
 use Rattle.book.specs.Continuation.{identity_since, Floor, reserved_as, token_as, entry_if, last_stamp}
-use Rattle.book.specs.Continuation.{stamp_with_identity, first_entries}
-use Rattle.book.specs.Continuation.{continued, IsAbove, IsAboveIfAny}
-use Rattle.book.specs.Entries.{with_all, FitInTurn}
-use Rattle.book.specs.History.{Entry, Reserved, Sealed, Calibrated, Held, Installed, History}
-use Rattle.book.specs.History.{HoldValue, CalibrationValue, InstalledValue, ReservationValue, reservations}
-use Rattle.book.specs.History.{holds, first_of, greatest_of, greatest_serial, last_gen_time, latest_calibration}
-use Rattle.book.specs.History.{is_held}
-use Rattle.book.specs.History.{token_of, reservation_at, stamp_of, stamp_at}
-use Rattle.book.specs.Identities.{latest_identity, identity_at_reservation}
-use Rattle.book.specs.Sound.{IsSound, greatest_number}
-use Rattle.book.proofs.Shown.{sound_all}
+use Rattle.book.specs.Continuation.{stamp_with_identity, first_entries, continued, IsAbove, IsAboveIfAny}
+use Rattle.book.specs.{Entries.with_all, Entries.FitInTurn, Sound.IsSound, Sound.greatest_number}
+use Rattle.book.specs.History.{Entry, Reserved, Sealed, Calibrated, Held, Installed, History, HoldValue}
+use Rattle.book.specs.History.{CalibrationValue, InstalledValue, ReservationValue, reservations, holds, first_of}
+use Rattle.book.specs.History.{greatest_of, greatest_serial, last_gen_time, latest_calibration, is_held, token_of}
+use Rattle.book.specs.History.{reservation_at, stamp_of, stamp_at}
+use Rattle.book.{specs.Identities.latest_identity, specs.Identities.identity_at_reservation, proofs.Shown.sound_all}
 
 -- ---- entries one list after the other
 

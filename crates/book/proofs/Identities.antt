@@ -1,16 +1,12 @@
 -- The rows of identities tell which one was in force when a serial number was reserved.
-use Rattle.std.proofs.Common.{◌≡◌, ℕ, ◌==◌, ◌<◌, ◌≤◌, max, false, List, [], ◌∷◌, find, nat_lt}
-use Rattle.std.proofs.Common.{Option, Some, option_map, refl, sym, ap, ◌∙◌, inl, inr, arith}
-use Rattle.std.proofs.lemmas.Bool.{lt-ltb, le-ltb}
-use Rattle.std.proofs.lemmas.Bool.Decides.{eqb_tells}
-use Rattle.std.proofs.lemmas.List.{reverse-reverse}
+use Rattle.std.proofs.Common.{◌≡◌, ℕ, ◌==◌, ◌<◌, ◌≤◌, max, false, List, [], ◌∷◌, find, nat_lt, Option, Some, option_map}
+use Rattle.std.proofs.Common.{refl, sym, ap, ◌∙◌, inl, inr, arith}
+use Rattle.std.proofs.lemmas.{Bool.lt-ltb, Bool.le-ltb, Bool.Decides.eqb_tells, List.reverse-reverse}
 use Rattle.std.proofs.Math.Nat.{le-max_left, le-max_right}
-use Rattle.book.specs.Rows.{InstalledRow}
-use Rattle.book.specs.History.{Reserved, Installed, InstalledValue, ReservationValue, History}
-use Rattle.book.specs.History.{reservations, reservation_at, greatest_of, greatest_serial}
+use Rattle.book.specs.{Rows.InstalledRow, Sound.IsSound, Identities.installed_as}
+use Rattle.book.specs.History.{Reserved, Installed, InstalledValue, ReservationValue, History, reservations}
+use Rattle.book.specs.History.{reservation_at, greatest_of, greatest_serial}
 use Rattle.book.specs.Identities.{latest_identity, identity_at_reservation, installed_rows, identities, identity_before}
-use Rattle.book.specs.Identities.{installed_as}
-use Rattle.book.specs.Sound.{IsSound}
 
 -- of rows with the newest first
 abbrev identity_among : ℕ → List InstalledRow → Option InstalledValue

@@ -1,11 +1,9 @@
 -- A number above the greatest is no deposit's in any sound history.
-use Rattle.std.proofs.Common.{◌≡◌, ℕ, ◌<◌, ◌≤◌, ◌==◌, Bool, true, false, cond, List, [], ◌∷◌, Option, Some, None}
-use Rattle.std.proofs.Common.{refl, arith}
-use Rattle.std.proofs.lemmas.Bool.{eqb-true, ne_eqb}
+use Rattle.std.proofs.Common.{◌≡◌, ℕ, ◌<◌, ◌≤◌, ◌==◌, Bool, true, false, cond, List, [], ◌∷◌, Option, Some, None, refl}
+use Rattle.std.proofs.{Common.arith, lemmas.Bool.eqb-true, lemmas.Bool.ne_eqb}
 use Rattle.book.specs.History.{Reserved, Deposited, History, ReservationValue, reservation_at, deposit_at}
-use Rattle.book.specs.Readers.{Viewer}
+use Rattle.book.specs.{Readers.Viewer, Sound.IsSound, Sound.greatest_number}
 use Rattle.book.specs.Rights.{is_own, is_visible, deposit_with_stamp}
-use Rattle.book.specs.Sound.{IsSound, greatest_number}
 
 here_within : (n : ℕ) (x r : ReservationValue) (at : Option ReservationValue) (same : Bool) → (x.serial == n) ≡ same
     → x.serial ≤ greatest_number → (at ≡ Some r → n ≤ greatest_number) → cond same (Some x) at ≡ Some r

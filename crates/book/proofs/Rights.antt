@@ -1,8 +1,7 @@
 -- What each entry makes of who reads a deposit.
 use Rattle.std.proofs.Common.{◌≡◌, ℕ, ◌==◌, ◌&&◌, Bool, true, false, ◌∷◌, cond, refl, Option, Some}
-use Rattle.book.specs.Readers.{Reader, is_same}
+use Rattle.book.specs.{Readers.Reader, Readers.is_same, Rights.gives, Rights.is_reader}
 use Rattle.book.specs.History.{Granted, Revoked, History, RightValue}
-use Rattle.book.specs.Rights.{gives, is_reader}
 
 -- what is found first decides
 gives_first : (test : Bool) (right : RightValue) (found : Option RightValue)

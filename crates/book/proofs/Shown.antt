@@ -1,16 +1,10 @@
 -- What histories show: entries that show nothing, and entries on histories that show the same.
-use Rattle.std.proofs.Common.{◌≡◌, ◌==◌, ◌&&◌, ℕ, suc, Bool, true, false, cond, List, [], ◌∷◌, length, Some, refl}
-use Rattle.std.proofs.Common.{sym, ap, ◌∙◌, subst}
-use Rattle.std.proofs.lemmas.Bool.{eqb-true}
-use Rattle.std.proofs.lemmas.Slice.Eq.{bytes_eq-Decides}
-use Rattle.book.specs.Entries.{with_all, FitInTurn}
+use Rattle.std.proofs.Common.{◌≡◌, ◌==◌, ◌&&◌, ℕ, suc, Bool, true, false, cond, List, [], ◌∷◌, length, Some, refl, sym}
+use Rattle.std.proofs.{Common.ap, Common.◌∙◌, Common.subst, lemmas.Bool.eqb-true, lemmas.Slice.Eq.bytes_eq-Decides}
+use Rattle.book.specs.{Entries.with_all, Entries.FitInTurn, Shows.ShowsSame, Sound.IsSound, Identities.installed_rows}
+use Rattle.book.specs.{Rights.is_reader, Readers.Reader, Readers.Account, Readers.Group, Readers.is_same}
 use Rattle.book.specs.History.{Entry, Reserved, Sealed, Deposited, Calibrated, Held, Granted, Revoked, Installed}
 use Rattle.book.specs.History.{History, InstalledValue, reservations, installations}
-use Rattle.book.specs.Identities.{installed_rows}
-use Rattle.book.specs.Readers.{Reader, Account, Group, is_same}
-use Rattle.book.specs.Rights.{is_reader}
-use Rattle.book.specs.Shows.{ShowsSame}
-use Rattle.book.specs.Sound.{IsSound}
 use Rattle.book.proofs.Rights.{reader_after_grant, reader_after_revocation}
 
 both : (v w : Bool) → (v && w) ≡ true → (v ≡ true) × (w ≡ true)

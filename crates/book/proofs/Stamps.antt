@@ -1,16 +1,11 @@
 -- In a range of one number is the stamp with that number, or none.
-use Rattle.std.proofs.Common.{◌≡◌, ℕ, ◌<◌, ◌≤◌, ◌==◌, ◌&&◌, max, nat_le, Bool, List, [], ◌∷◌, map, filter, find, reverse}
-use Rattle.std.proofs.Common.{Option, Some, None, option_map, option_to_list, refl, sym, ap, ◌∙◌, inl, inr, arith}
-use Rattle.std.proofs.Math.Nat.{le-max_left, le-max_right}
-use Rattle.std.proofs.lemmas.Bool.{eq-eqb, ne_eqb}
-use Rattle.std.proofs.lemmas.Bool.Decides.{eqb_tells, leb_tells}
+use Rattle.std.proofs.Common.{◌≡◌, ℕ, ◌<◌, ◌≤◌, ◌==◌, ◌&&◌, max, nat_le, Bool, List, [], ◌∷◌, map, filter, find}
+use Rattle.std.proofs.Common.{reverse, Option, Some, None, option_map, option_to_list, refl, sym, ap, ◌∙◌, inl, inr}
+use Rattle.std.proofs.{Common.arith, Math.Nat.le-max_left, Math.Nat.le-max_right}
+use Rattle.std.proofs.lemmas.Bool.{eq-eqb, ne_eqb, Decides.eqb_tells, Decides.leb_tells}
 use Rattle.book.specs.History.{Reserved, History, ReservationValue, greatest_of, reservations, stamp_at, stamp_of}
-use Rattle.book.specs.History.{stamps_between, token_of}
-use Rattle.book.specs.Ranges.{IsNextStamp}
-use Rattle.book.specs.Rows.{StampRow}
-use Rattle.book.specs.Sound.{IsSound}
-use Rattle.book.specs.Values.{stamp_view}
-use Rattle.book.specs.declared.rows.Stamp.{Stamp}
+use Rattle.book.specs.{History.stamps_between, History.token_of, Ranges.IsNextStamp, Values.stamp_view}
+use Rattle.book.specs.{Rows.StampRow, Sound.IsSound, declared.rows.Stamp.Stamp}
 
 abbrev Falls : List ReservationValue → Type 0
 Falls [] = Unit {0}

@@ -3,8 +3,7 @@ use Rattle.std.proofs.Common.{◌≡◌, ℕ, pos, true, [], ◌∷◌, refl, So
 use Rattle.book.specs.Continuation.{Floor, closed, all_moments, first_entries, continued}
 use Rattle.book.specs.History.{Reserved, Sealed, Deposited, Calibrated, Held, Granted, Installed, ReservationValue}
 use Rattle.book.specs.History.{CalibrationValue, HoldValue, InstalledValue, History, greatest_serial, last_gen_time}
-use Rattle.book.specs.History.{is_held}
-use Rattle.book.specs.Readers.{Account}
+use Rattle.book.specs.{History.is_held, Readers.Account}
 
 abbrev reserved : ℕ → ReservationValue
 reserved serial = record {

@@ -1,14 +1,11 @@
 -- A history that goes on in a new book: how the old one is closed, and with which entries the new one begins.
-use Rattle.std.specs.Prelude.{◌≡◌, ℕ, ◌<◌, ◌≤◌, pos, int_le, Bool, not, ◌&&◌, List, [], ◌∷◌, ◌++◌, map, filter}
-use Rattle.std.specs.Prelude.{reverse, Option, Some, None, if◌then◌else◌}
-use Rattle.std.specs.List.{list_any}
+use Rattle.std.specs.Prelude.{◌≡◌, ℕ, ◌<◌, ◌≤◌, pos, int_le, Bool, not, ◌&&◌, List, [], ◌∷◌, ◌++◌, map, filter, reverse}
+use Rattle.std.specs.{Prelude.Option, Prelude.Some, Prelude.None, Prelude.if◌then◌else◌, List.list_any}
 use Rattle.gentime.specs.GenTime.{last_moment}
-use Rattle.book.specs.Entries.{with_all}
+use Rattle.book.specs.{Entries.with_all, Sound.greatest_number, Identities.identity_at_reservation}
 use Rattle.book.specs.History.{Entry, Reserved, Sealed, Calibrated, Held, Installed, History, HoldValue}
 use Rattle.book.specs.History.{ReservationValue, InstalledValue, reservations, holds, first_of, greatest_serial}
 use Rattle.book.specs.History.{latest_calibration, token_of}
-use Rattle.book.specs.Identities.{identity_at_reservation}
-use Rattle.book.specs.Sound.{greatest_number}
 
 -- ---- the old book
 

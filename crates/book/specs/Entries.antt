@@ -1,18 +1,12 @@
 -- Entries that one call adds, as the history has them, and what such a call does.
 use Rattle.std.specs.Prelude.{◌⊎◌, List, [], ◌∷◌, map, Result, OnOk, OnErr}
-use Rattle.book.specs.declared.fault.StoreFault.{StoreFault}
-use Rattle.book.specs.Fault.{CountsFaults}
-use Rattle.book.specs.declared.entries.Entry.{Entry as Added}
-use Rattle.book.specs.declared.entries.Entry.TheVariants as added
-use Rattle.book.specs.declared.entries.Reader.{Reader as Named}
-use Rattle.book.specs.declared.entries.Reader.TheVariants as named
-use Rattle.book.specs.declared.standing.Standing.{Ghosts}
-use Rattle.book.specs.History.{Entry, Reserved, Sealed, Deposited, Calibrated, Held, Granted, Revoked}
-use Rattle.book.specs.History.{Installed, History}
-use Rattle.book.specs.Readers.{Reader, Account, Group}
-use Rattle.book.specs.Sound.{Fits}
-use Rattle.book.specs.Stands.{Stands}
+use Rattle.book.specs.{declared.fault.StoreFault.StoreFault, declared.standing.Standing.Ghosts, Readers.Reader}
+use Rattle.book.specs.{Readers.Account, Readers.Group, Fault.CountsFaults, History.History, Sound.Fits, Stands.Stands}
+use Rattle.book.specs.declared.entries.{Entry.Entry as Added, Reader.Reader as Named}
+use Rattle.book.specs.History.{Entry, Reserved, Sealed, Deposited, Calibrated, Held, Granted, Revoked, Installed}
 use Rattle.book.specs.Values.{reservation_view, calibration_view, hold_view, deposit_of, installed_of}
+use Rattle.book.specs.declared.entries.Entry.TheVariants as added
+use Rattle.book.specs.declared.entries.Reader.TheVariants as named
 
 abbrev pub reader_view : Named → Reader
 reader_view (named.Account name) = Account name.now

@@ -1,13 +1,10 @@
 -- The history of what the counter accepted, newest entry first, and what it says: views are filters and searches of
 -- this one list.
-use Rattle.std.specs.Prelude.{ℕ, ◌==◌, ◌&&◌, max, nat_le, ℤ, int_le, int_lt, Bool, true, false, List, []}
-use Rattle.std.specs.Prelude.{◌∷◌, map, filter, filter_map, find, count_by, reverse, Option, Some, None, option_map}
-use Rattle.std.specs.Prelude.{if◌then◌else◌}
-use Rattle.std.specs.List.{list_any}
-use Rattle.std.specs.Str.{bytes_eq}
+use Rattle.std.specs.Prelude.{ℕ, ◌==◌, ◌&&◌, max, nat_le, ℤ, int_le, int_lt, Bool, true, false, List, [], ◌∷◌, map}
+use Rattle.std.specs.Prelude.{filter, filter_map, find, count_by, reverse, Option, Some, None, option_map}
+use Rattle.std.specs.{Prelude.if◌then◌else◌, List.list_any, Str.bytes_eq}
 pub use Rattle.gentime.specs.GenTime.{day_of}
-use Rattle.book.specs.Rows.{StampRow, DepositRow}
-use Rattle.book.specs.Readers.{Reader}
+use Rattle.book.specs.{Rows.StampRow, Rows.DepositRow, Readers.Reader}
 
 -- What is reserved for a stamp before it is signed (RFC 3161 2.4.2): genTime in microseconds since
 -- 1970-01-01T00:00:00Z; policy and algorithm are the contents octets of object identifiers (X.690 8.19), as the tables

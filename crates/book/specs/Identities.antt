@@ -1,6 +1,5 @@
 -- Which identity is in force, and which was when a serial number was reserved.
-use Rattle.std.specs.Prelude.{ℕ, ◌+◌, ◌==◌, nat_lt, List, [], ◌∷◌, length, reverse, find, Option, None}
-use Rattle.std.specs.Prelude.{if◌then◌else◌}
+use Rattle.std.specs.Prelude.{ℕ, ◌+◌, ◌==◌, nat_lt, List, [], ◌∷◌, length, reverse, find, Option, None, if◌then◌else◌}
 use Rattle.book.specs.Rows.{InstalledRow}
 use Rattle.book.specs.History.{Reserved, Installed, InstalledValue, History, installations, first_of, greatest_serial}
 

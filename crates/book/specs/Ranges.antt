@@ -1,9 +1,7 @@
 -- The stamps of a range, one after the other.
 use Rattle.std.specs.Prelude.{◌≡◌, ℕ, ◌+◌, ◌≤◌, List, [], ◌∷◌, Option, Some, None}
-use Rattle.book.specs.Rows.{StampRow}
+use Rattle.book.specs.{Rows.StampRow, Values.stamp_view, declared.rows.Stamp.Stamp}
 use Rattle.book.specs.History.{History, stamps_between}
-use Rattle.book.specs.Values.{stamp_view}
-use Rattle.book.specs.declared.rows.Stamp.{Stamp}
 
 -- a number of a range, both ends in it
 pub record IsWithin (from to number : ℕ) : Type 0 where

@@ -1,6 +1,5 @@
 -- Who is given the right to read a deposit, and who asks to see one.
-use Rattle.std.specs.Prelude.{ℕ, Bool, false, List, ◌∷◌, map}
-use Rattle.std.specs.Str.{bytes_eq}
+use Rattle.std.specs.{Prelude.ℕ, Prelude.Bool, Prelude.false, Prelude.List, Prelude.◌∷◌, Prelude.map, Str.bytes_eq}
 
 -- whom a right names: an account, or a group of accounts, by its name
 pub data Reader : Type 0 where

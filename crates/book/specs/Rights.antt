@@ -1,13 +1,10 @@
 -- Who sees which deposit: its owner, and its current readers, which are those whose last entry about it is a grant.
-use Rattle.std.specs.Prelude.{ℕ, ◌==◌, ◌&&◌, ◌||◌, Bool, false, List, filter_map, find, Option, Some, None}
-use Rattle.std.specs.Prelude.{option_map, option_and_then, if◌then◌else◌}
-use Rattle.std.specs.Option.{is_some}
-use Rattle.std.specs.List.{list_any, range_with_len}
-use Rattle.std.specs.Str.{bytes_eq}
-use Rattle.book.specs.Rows.{DepositRow, StampRow}
+use Rattle.std.specs.Prelude.{ℕ, ◌==◌, ◌&&◌, ◌||◌, Bool, false, List, filter_map, find, Option, Some, None, option_map}
+use Rattle.std.specs.Prelude.{option_and_then, if◌then◌else◌}
+use Rattle.std.specs.{Option.is_some, Str.bytes_eq, List.list_any, List.range_with_len}
+use Rattle.book.specs.{Rows.DepositRow, Rows.StampRow, History.deposit_at, History.stamp_at}
 use Rattle.book.specs.Readers.{Reader, is_same, Viewer, readers_as}
 use Rattle.book.specs.History.{History, RightValue, rights, ReservationValue, greatest_serial, reservation_at}
-use Rattle.book.specs.History.{deposit_at, stamp_at}
 
 -- the right is this reader's to this deposit
 abbrev pub is_about : ℕ → Reader → RightValue → Bool

@@ -1,5 +1,5 @@
--- What is known of a stamp, of a deposit and of an identity. Moments are whole microseconds from 1970-01-01T00:00:00Z, days whole days
--- from it, and texts, object identifiers and blobs are their octets.
+-- What is known of a stamp, of a deposit and of an identity. Moments are whole microseconds from 1970-01-01T00:00:00Z,
+-- days whole days from it, and texts, object identifiers and blobs are their octets.
 use Rattle.std.specs.Prelude.{ℕ, List, Option}
 
 -- a reservation of a serial number, and its token once it is sealed

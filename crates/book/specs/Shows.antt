@@ -1,9 +1,7 @@
 -- Histories that show the same: all that a book is asked, and all that is written down of them.
 use Rattle.std.specs.Prelude.{◌≡◌, ℕ}
 use Rattle.book.specs.History.{History, reservations, token_of, calibrations, holds, deposits}
-use Rattle.book.specs.Identities.{installed_rows}
-use Rattle.book.specs.Readers.{Reader}
-use Rattle.book.specs.Rights.{is_reader}
+use Rattle.book.specs.{Identities.installed_rows, Readers.Reader, Rights.is_reader}
 
 -- the same stamps with their tokens, calibrations, holds, deposits, current readers and identities: how entries of
 -- different kinds lie between one another, and rights that changed nothing, don't show

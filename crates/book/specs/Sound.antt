@@ -2,11 +2,9 @@
 -- it says of DER texts and hashes stands above.
 use Rattle.std.specs.Prelude.{◌≡◌, ℕ, ◌<◌, ◌≤◌, ◌<ℤ◌, int_lt, Bool, false, IsTrue, [], ◌∷◌, Option, Some, None}
 use Rattle.gentime.specs.GenTime.{last_moment}
-use Rattle.book.specs.Rows.{DepositRow}
+use Rattle.book.specs.{Rows.DepositRow, History.deposit_at, History.deposit_under}
 use Rattle.book.specs.History.{Entry, Reserved, Sealed, Deposited, Calibrated, Held, Granted, Revoked, Installed}
-use Rattle.book.specs.History.{History}
-use Rattle.book.specs.History.{ReservationValue, CalibrationValue, greatest_serial, token_of}
-use Rattle.book.specs.History.{reservation_at, deposit_at, deposit_under}
+use Rattle.book.specs.History.{History, ReservationValue, CalibrationValue, greatest_serial, token_of, reservation_at}
 
 -- a fact of each entry and the history before it
 abbrev pub Along : (Entry → History → Type 0) → History → Type 0

@@ -1,7 +1,5 @@
 -- Which histories a book stands for, and what its calls leave.
-use Rattle.book.specs.declared.standing.Standing.{Ghosts}
-use Rattle.book.specs.History.{History}
-use Rattle.book.specs.Sound.{IsSound}
+use Rattle.book.specs.{declared.standing.Standing.Ghosts, History.History, Sound.IsSound}
 
 -- the history is sound, the book keeps it, and while it is open and returned what was written a stop leaves nothing
 -- else

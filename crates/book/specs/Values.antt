@@ -1,19 +1,11 @@
 -- The calls' arguments and answers, as the entries and views of a history.
 use Rattle.std.specs.Prelude.{ℕ, List, Option, option_map, string_bytes}
 use Rattle.book.specs.Rows.{DepositRow, StampRow, InstalledRow}
-use Rattle.book.specs.declared.rows.Deposit.{Deposit}
-use Rattle.book.specs.declared.rows.Stamp.{Stamp}
-use Rattle.book.specs.declared.rows.IdentityRow.{IdentityRow}
-use Rattle.book.specs.History.{ReservationValue, CalibrationValue, HoldValue, InstalledValue, History}
-use Rattle.book.specs.History.{greatest_serial, last_gen_time}
-use Rattle.book.specs.declared.values.Reservation.{Reservation}
-use Rattle.book.specs.declared.values.Calibration.{Calibration}
-use Rattle.book.specs.declared.values.Hold.{Hold}
-use Rattle.book.specs.declared.values.Last.{Last}
-use Rattle.book.specs.declared.values.Listed.{Listed}
-use Rattle.book.specs.declared.values.StampedDeposit.{StampedDeposit}
-use Rattle.book.specs.Readers.{Viewer}
-use Rattle.book.specs.Rights.{ListedValue}
+use Rattle.book.specs.declared.rows.{Deposit.Deposit, Stamp.Stamp, IdentityRow.IdentityRow}
+use Rattle.book.specs.History.{ReservationValue, CalibrationValue, HoldValue, InstalledValue, History, greatest_serial}
+use Rattle.book.specs.{History.last_gen_time, Readers.Viewer, Rights.ListedValue}
+use Rattle.book.specs.declared.values.{Reservation.Reservation, Calibration.Calibration}
+use Rattle.book.specs.declared.values.{Hold.Hold, Last.Last, Listed.Listed, StampedDeposit.StampedDeposit}
 
 abbrev pub reservation_view : Reservation → ReservationValue
 reservation_view r = record {

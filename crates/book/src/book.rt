@@ -1,23 +1,17 @@
 //! The book: a list of entries is added in one commit, each look-up answers a view of the history.
-ghost use Rattle.std.specs.Prelude.{◌≡◌, ◌↔◌, [], ◌∷◌, ◌+◌, ◌<◌, ◌≤◌, ◌^◌, true, false, map, length, reverse};
-ghost use Rattle.std.specs.Prelude.{None, option_map};
-ghost use Rattle.std.specs.Prelude.{Ok, Err, IfOk, IfErr, IfSome, IsErr, OnOk, IsTrue};
+ghost use Rattle.std.specs.Prelude.{◌≡◌, ◌↔◌, [], ◌∷◌, ◌+◌, ◌<◌, ◌≤◌, ◌^◌, false, map, length, reverse, None};
+ghost use Rattle.std.specs.Prelude.{option_map, Ok, Err, IfOk, IfErr, IfSome, IsErr, OnOk, IsTrue};
 ghost use Rattle.std.specs.Io.KnownBytes.{Keeps};
-ghost use Rattle.book.specs.Entries.{entries_view, Appends};
+ghost use Rattle.book.specs.{Entries.entries_view, Entries.Appends, Shows.ShowsSame, Values.identity_view};
 ghost use Rattle.book.specs.History.{History, Reserved, Sealed, Deposited, Calibrated, Held, Granted, Revoked};
 ghost use Rattle.book.specs.History.{Installed, count_of_day, calibrations, holds, latest_calibration, is_held};
-ghost use Rattle.book.specs.History.{deposit_under};
-ghost use Rattle.book.specs.Identities.{identities};
-ghost use Rattle.book.specs.Readers.{Account, Group};
+ghost use Rattle.book.specs.{History.deposit_under, Identities.identities, Stands.Stands, Stands.OnlyLooks};
+ghost use Rattle.book.specs.{Stands.LeavesAsBefore, Fault.CountsFaults, Fault.IsOfStorage, Fault.IsOfStorageOr};
+ghost use Rattle.book.specs.{Readers.Account, Readers.Group, Ranges.IsNextStamp, Ranges.IsWithin};
 ghost use Rattle.book.specs.Rights.{is_own, is_visible, listed, deposit_with_stamp};
-ghost use Rattle.book.specs.Shows.{ShowsSame};
 ghost use Rattle.book.specs.Sound.{IsSound, IsExhausted, IsBackwards, greatest_number};
-ghost use Rattle.book.specs.Stands.{Stands, OnlyLooks, LeavesAsBefore};
-ghost use Rattle.book.specs.Fault.{CountsFaults, IsOfStorage, IsOfStorageOr};
 ghost use Rattle.book.specs.Values.{reservation_view, calibration_view, hold_view, last_of, calibration_option};
 ghost use Rattle.book.specs.Values.{deposit_of, stamped_view, listed_view, deposit_view, viewer_of, installed_of};
-ghost use Rattle.book.specs.Values.{identity_view};
-ghost use Rattle.book.specs.Ranges.{IsNextStamp, IsWithin};
 
 use crate::entries::{Entry, Reader};
 use crate::fault::StoreFault;

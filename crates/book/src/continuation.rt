@@ -1,12 +1,10 @@
 //! What holds of a history that goes on in a new book.
 ghost use Rattle.std.specs.Prelude.{◌≡◌, ◌<◌, ℕ, ℤ, pos, true, false, Option, Some, None, []};
-ghost use Rattle.book.specs.Continuation.{Floor, IsAbove, IsAboveIfAny, first_entries, continued, other_holds};
-ghost use Rattle.book.specs.Continuation.{closed, is_closed};
-ghost use Rattle.book.specs.Entries.{FitInTurn};
+ghost use Rattle.book.specs.Continuation.{Floor, IsAbove, IsAboveIfAny, first_entries, continued, other_holds, closed};
+ghost use Rattle.book.specs.{Continuation.is_closed, Entries.FitInTurn};
 ghost use Rattle.book.specs.History.{History, holds, greatest_serial, last_gen_time, latest_calibration, is_held};
-ghost use Rattle.book.specs.History.{stamp_at, token_of};
+ghost use Rattle.book.specs.{History.stamp_at, History.token_of, Sound.IsSound, Sound.greatest_number};
 ghost use Rattle.book.specs.Identities.{latest_identity, identity_at_reservation};
-ghost use Rattle.book.specs.Sound.{IsSound, greatest_number};
 
 /// A history goes on in a new book by entries that fit in turn (`fit`), so that its history is sound (`sound`). That
 /// has the old one's latest calibration, its holds but those of all moments, so that the same moments are held where it

@@ -1,9 +1,7 @@
 //! The stamps of a range, one after the other.
 ghost use Rattle.std.specs.Prelude.{◌≡◌, ◌+◌, None, IfOk, IfErr, IfSome, MatchResult};
-ghost use Rattle.book.specs.History.{History, stamps_between};
-ghost use Rattle.book.specs.Stands.{Stands, OnlyLooks};
-ghost use Rattle.book.specs.Fault.{CountsFaults, IsOfStorage};
-ghost use Rattle.book.specs.Ranges.{HandsOut, IsWithin};
+ghost use Rattle.book.specs.{History.History, History.stamps_between, Fault.CountsFaults, Fault.IsOfStorage};
+ghost use Rattle.book.specs.{Stands.Stands, Stands.OnlyLooks, Ranges.HandsOut, Ranges.IsWithin};
 
 use crate::book::Book;
 use crate::fault::StoreFault;

@@ -1,16 +1,12 @@
 -- The good state, and the promise on its genTime.
 use Rattle.std.proofs.Common.{◌≡◌, ℕ, ◌<◌, ◌≤◌, ◌+◌, ◌-◌, ◌*◌, ◌/◌, ◌%◌, ◌^◌, ℤ, pos, Some, false, sym, ap, ◌∙◌, subst}
-use Rattle.std.proofs.Common.{arith}
+use Rattle.std.proofs.{Common.arith, Math.Nat.one-le-pow, lemmas.Int.ints, lemmas.Option.same_Some}
 use Rattle.std.specs.Prelude.{◌≤ℤ◌}
-use Rattle.std.proofs.lemmas.Int.{ints}
-use Rattle.std.proofs.Math.Nat.{one-le-pow}
-use Rattle.std.proofs.lemmas.Option.{same_Some}
 use Rattle.gentime.specs.GenTime.{last_moment}
 use Rattle.policy.specs.Record.{CounterValue}
 use Rattle.decide.specs.Clock.{now_at, elapsed, divided_up, deviation, step, gen_time, Follows, IsGood, IsGoodAt}
 use Rattle.decide.specs.Clock.{IsWithin, KeepsAccuracy}
-use Rattle.decide.specs.declared.facts.Calibration.{Calibration}
-use Rattle.decide.specs.declared.facts.ClockFacts.{ClockFacts}
+use Rattle.decide.specs.declared.facts.{Calibration.Calibration, ClockFacts.ClockFacts}
 
 pub good_at : (counter : CounterValue) (facts : ClockFacts) (calibration : Calibration) (since now moment : ℕ)
     → facts.calibration ≡ Some calibration → calibration.reading ≤ℤ facts.reading

@@ -1,9 +1,7 @@
 -- Tests over lists, and what they tell of the values that the elements stand for.
-use Rattle.std.proofs.Common.{◌≡◌, zero, suc, Bool, true, false, Some, is_some, List, [], ◌∷◌, map}
-use Rattle.std.proofs.Common.{refl, sym, ap, subst, inl, inr, ◌⊎◌, arith}
-use Rattle.std.specs.Prelude.{Contains}
-use Rattle.std.specs.Bool.{Decides}
-use Rattle.std.specs.List.{list_any, list_all, find}
+use Rattle.std.proofs.Common.{◌≡◌, zero, suc, Bool, true, false, Some, is_some, List, [], ◌∷◌, map, refl, sym, ap}
+use Rattle.std.proofs.Common.{subst, inl, inr, ◌⊎◌, arith}
+use Rattle.std.specs.{Prelude.Contains, Bool.Decides, List.list_any, List.list_all, List.find}
 use Rattle.std.proofs.lemmas.Bool.Decides.{Decides-like, Decides-or, Decides-and}
 
 pub contains_here : {A : Type 0} (x : A) (xs : List A) → Contains (x ∷ xs) x

@@ -1,18 +1,12 @@
 -- The definitions, computed on a row: calibration (0, 250, 400), drift 1000, three digits, reading 1,000,000,000.
 use Rattle.std.proofs.Common.{◌≡◌, ℕ, ◌≤◌, ◌+◌, ◌-◌, pos, [], ◌∷◌, Some, None, true, false, refl, sym, subst, codes}
-use Rattle.std.proofs.Common.{arith}
-use Rattle.std.proofs.lemmas.Int.{ints}
-use Rattle.std.proofs.lemmas.Option.{same_Some}
+use Rattle.std.proofs.{Common.arith, lemmas.Int.ints, lemmas.Option.same_Some}
 use Rattle.policy.specs.Record.{AccountValue, CounterValue, PolicyValue}
-use Rattle.tsp.specs.Request.{RequestValue}
-use Rattle.tsp.specs.Rules.{IsFirstFailing}
+use Rattle.tsp.specs.{Request.RequestValue, Rules.IsFirstFailing}
 use Rattle.tsp.specs.declared.rule.Rule.TheVariants.{Account, Algorithm}
 use Rattle.decide.specs.Clock.{now_at, deviation, step, gen_time, IsGood, IsGoodAt}
-use Rattle.decide.specs.Rules.{HoldsOf}
-use Rattle.decide.specs.declared.facts.Calibration.{Calibration}
-use Rattle.decide.specs.declared.facts.ClockFacts.{ClockFacts}
-use Rattle.decide.proofs.Lists.{contains_here, contains_none}
-use Rattle.decide.proofs.Judgement.{after_version, below_next}
+use Rattle.decide.specs.{Rules.HoldsOf, declared.facts.Calibration.Calibration, declared.facts.ClockFacts.ClockFacts}
+use Rattle.decide.proofs.{Lists.contains_here, Lists.contains_none, Judgement.after_version, Judgement.below_next}
 
 abbrev counter : ℕ → CounterValue
 counter accuracy = record {

@@ -2,29 +2,21 @@
 use Rattle.std.proofs.Common.{◌≡◌, ℕ, ◌≤◌, Bool, true, false, Option, Some, None, is_some, List, [], ◌∷◌, map, length}
 use Rattle.std.proofs.Common.{◌&&◌, ◌||◌, ◌==◌, not, nat_le, option_map, String, Global, string_bytes, refl, sym, ap}
 use Rattle.std.proofs.Common.{◌∙◌, subst, inl, inr, ◌⊎◌}
-use Rattle.std.specs.Prelude.{Contains}
-use Rattle.std.specs.Bool.{Decides}
+use Rattle.std.specs.{Prelude.Contains, Bool.Decides, Str.bytes_eq}
 use Rattle.std.specs.List.{list_any, list_all, find, AllByRecursion}
-use Rattle.std.specs.Str.{bytes_eq}
 use Rattle.std.proofs.lemmas.Bool.Decides.{Decides-like, Decides-or, Decides-and, Decides-not, Decides-eqb}
-use Rattle.std.proofs.lemmas.Bool.{leb-true, le-leb}
-use Rattle.std.proofs.lemmas.Slice.Eq.{bytes_eq-Decides}
-use Rattle.std.proofs.lemmas.Option.{same_Some}
+use Rattle.std.proofs.lemmas.{Bool.leb-true, Bool.le-leb, Slice.Eq.bytes_eq-Decides, Option.same_Some}
 use Rattle.der.specs.ObjectIdentifier.{oid_content}
-use Rattle.policy.specs.Kinds.{is_among}
-use Rattle.policy.specs.LookUp.{policy_of_oid}
+use Rattle.policy.specs.{Kinds.is_among, LookUp.policy_of_oid}
 use Rattle.policy.specs.Record.{TsaPolicyValue, AccountValue, PolicyValue}
-use Rattle.policy.specs.Record as record_of
 use Rattle.policy.specs.View.{algorithm_view, extension_view, tsa_policy_view, policy_view}
-use Rattle.policy.specs.declared.entries.Algorithm.{Algorithm}
-use Rattle.policy.specs.declared.entries.TsaPolicy.{TsaPolicy}
-use Rattle.policy.specs.declared.policy.Policy.{Policy}
-use Rattle.tsp.specs.Rules.{AlgorithmValue}
-use Rattle.tsp.specs.Request.{ExtensionValue}
+use Rattle.policy.specs.declared.{entries.Algorithm.Algorithm, entries.TsaPolicy.TsaPolicy, policy.Policy.Policy}
+use Rattle.tsp.specs.{Rules.AlgorithmValue, Request.ExtensionValue}
 use Rattle.decide.specs.Rules.{algorithms_of, IsAccepted, KnowsExtension, AreDistinct}
-use Rattle.decide.specs.Tests.{lists_algorithm, knows_extension, knows_extensions, stands_once, stand_once}
+use Rattle.decide.specs.auxiliary.Tests.{lists_algorithm, knows_extension, knows_extensions, stands_once, stand_once}
 use Rattle.decide.proofs.Lists.{contains_here, contains_there, contains_none, contains_first_or_other, decides_any}
 use Rattle.decide.proofs.Lists.{decides_all, decides_found, found_passes, map_id}
+use Rattle.policy.specs.Record as record_of
 
 -- the contents of an object identifier tell it
 abbrev pub OneContent : Type 0

@@ -5,10 +5,8 @@ use Rattle.std.specs.Prelude.{◌≡◌, ℕ, ◌<◌, ◌≤◌, ◌+◌, ◌-�
 use Rattle.std.specs.Prelude.{false, Option, Some, None}
 use Rattle.gentime.specs.GenTime.{last_moment, round_down}
 use Rattle.policy.specs.Record.{CounterValue}
-use Rattle.decide.specs.declared.facts.Calibration.{Calibration}
-use Rattle.decide.specs.declared.facts.ClockFacts.{ClockFacts}
-use Rattle.decide.specs.declared.clock.ClockState.{ClockState}
-use Rattle.decide.specs.declared.clock.ClockState.TheVariants.{Good, Bad}
+use Rattle.decide.specs.declared.facts.{Calibration.Calibration, ClockFacts.ClockFacts}
+use Rattle.decide.specs.declared.clock.ClockState.{ClockState, TheVariants.Good, TheVariants.Bad}
 
 -- the moment that a reading stands for
 abbrev pub now_at : ℤ → Calibration → ℤ

@@ -1,5 +1,5 @@
 pub mod Clock
 pub mod Rules
-pub mod Tests
 pub mod Verdict
 pub mod View
+pub mod auxiliary

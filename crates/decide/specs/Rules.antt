@@ -1,19 +1,16 @@
 -- The rules of a written policy (in the manner of RFC 3628), each a sentence that stands by itself, and the first that
 -- fails.
 use Rattle.std.specs.Prelude.{◌≡◌, ℕ, ◌<◌, ◌≤◌, ◌⊎◌, true, false, List, [], ◌∷◌, map, length, Option, Some, None}
-use Rattle.std.specs.Prelude.{option_map, Contains}
-use Rattle.std.specs.List.{AllByRecursion}
-use Rattle.policy.specs.LookUp as look_up
+use Rattle.std.specs.{Prelude.option_map, Prelude.Contains, List.AllByRecursion}
 use Rattle.policy.specs.Record.{AlgorithmValue, ExtensionValue, TsaPolicyValue, AccountValue, PolicyValue}
-use Rattle.tsp.specs.Request.{RequestValue}
-use Rattle.tsp.specs.Request as tsp
-use Rattle.tsp.specs.Rules as rules
+use Rattle.tsp.specs.{Request.RequestValue, declared.rule.Rule.Rule}
 use Rattle.tsp.specs.Rules.{HasVersionOne, HasKnownAlgorithm, HasAlgorithmLength}
-use Rattle.tsp.specs.declared.rule.Rule.{Rule}
 use Rattle.tsp.specs.declared.rule.Rule.TheVariants.{Spelling, Version, Account, Algorithm, HashLength, Policy}
 use Rattle.tsp.specs.declared.rule.Rule.TheVariants.{PolicyAlgorithm, Extensions, Certificate, Clock, Quota, System}
-use Rattle.decide.specs.Clock.{IsGood}
-use Rattle.decide.specs.declared.facts.Facts.{Facts}
+use Rattle.decide.specs.{Clock.IsGood, declared.facts.Facts.Facts}
+use Rattle.policy.specs.LookUp as look_up
+use Rattle.tsp.specs.Request as tsp
+use Rattle.tsp.specs.Rules as rules
 
 -- the account is one of the policy file's, and active
 abbrev pub IsKnown : PolicyValue → Option AccountValue → Type 0

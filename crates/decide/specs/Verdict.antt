@@ -1,12 +1,9 @@
 -- The decision on a request: the plan of the stamp, or the first rule that fails.
 use Rattle.std.specs.Prelude.{◌≡◌, ℕ, List, Bool, Option, Some, None}
 use Rattle.policy.specs.Record.{AccountValue, PolicyValue}
-use Rattle.tsp.specs.Request.{RequestValue}
-use Rattle.tsp.specs.Rules.{IsFirstFailing}
-use Rattle.tsp.specs.declared.rule.Rule.{Rule}
-use Rattle.decide.specs.Clock.{IsGoodAt, KeepsAccuracy}
+use Rattle.tsp.specs.{Request.RequestValue, Rules.IsFirstFailing, declared.rule.Rule.Rule}
+use Rattle.decide.specs.{Clock.IsGoodAt, Clock.KeepsAccuracy, declared.facts.Facts.Facts}
 use Rattle.decide.specs.Rules.{HoldsOf, Holds, policy_asked}
-use Rattle.decide.specs.declared.facts.Facts.{Facts}
 
 -- what a stamp will say besides what its request says: the policy's object identifier, the genTime, and whether its
 -- token comes with the certificate

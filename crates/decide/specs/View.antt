@@ -1,13 +1,9 @@
 -- What the types stand for.
-use Rattle.std.specs.Prelude.{Option, option_map}
-use Rattle.std.proofs.Common.{Bor}
-use Rattle.policy.specs.Record.{AccountValue}
-use Rattle.policy.specs.View.{account_view}
-use Rattle.policy.specs.declared.entries.Account.{Account}
+use Rattle.std.{specs.Prelude.Option, specs.Prelude.option_map, proofs.Common.Bor}
+use Rattle.policy.specs.{Record.AccountValue, View.account_view, declared.entries.Account.Account}
 use Rattle.decide.specs.Verdict.{PlanValue, VerdictValue, Allowed, Denied}
 use Rattle.decide.specs.declared.verdict.Plan.{Plan}
-use Rattle.decide.specs.declared.verdict.Verdict.{Verdict}
-use Rattle.decide.specs.declared.verdict.Verdict.TheVariants.{Allow, Deny}
+use Rattle.decide.specs.declared.verdict.Verdict.{Verdict, TheVariants.Allow, TheVariants.Deny}
 
 -- the account that asks, where one does
 abbrev pub account_asked : Option (Bor Account) → Option AccountValue

@@ -1,11 +1,9 @@
 //! The rules in their order.
 ghost use Rattle.std.specs.Prelude.{◌≡◌, ◌≤◌, Some, None, IfSome, MatchResult};
 ghost use Rattle.policy.specs.View.{policy_view};
-ghost use Rattle.tsp.specs.Rejection.{number_of};
-ghost use Rattle.tsp.specs.View.{request_view};
-ghost use Rattle.decide.specs.Rules.{policy_asked};
+ghost use Rattle.tsp.specs.{Rejection.number_of, View.request_view};
+ghost use Rattle.decide.specs.{Rules.policy_asked, View.account_asked, View.verdict_view};
 ghost use Rattle.decide.specs.Verdict.{IsJudged, IsVerdict, AllowsAccurately};
-ghost use Rattle.decide.specs.View.{account_asked, verdict_view};
 
 use crate::accounts::is_known;
 use crate::clock::{ClockState, clock_state};

@@ -3,13 +3,10 @@ ghost use Rattle.std.specs.Prelude.{◌≡◌, ℕ, ◌≤◌, List, length, Opt
 ghost use Rattle.policy.specs.Record.{AccountValue, CounterValue, PolicyValue};
 ghost use Rattle.tsp.specs.Request.{RequestValue, Spells};
 ghost use Rattle.tsp.specs.Rules.{IsSpelled, HoldsOfOctets, IsFirstFailing};
-ghost use Rattle.tsp.specs.declared.rule.Rule.{Rule};
-ghost use Rattle.tsp.specs.declared.rule.Rule.TheVariants.{Spelling, Clock, Quota};
-ghost use Rattle.decide.specs.Clock.{IsGood, IsGoodAt, KeepsAccuracy};
-ghost use Rattle.decide.specs.Rules.{HoldsOf, Holds, IsWithinQuota};
+ghost use Rattle.tsp.specs.declared.rule.Rule.{Rule, TheVariants.Spelling, TheVariants.Clock, TheVariants.Quota};
+ghost use Rattle.decide.specs.{Clock.IsGood, Clock.IsGoodAt, Clock.KeepsAccuracy, Rules.HoldsOf, Rules.Holds};
+ghost use Rattle.decide.specs.{Rules.IsWithinQuota, declared.facts.ClockFacts.ClockFacts, declared.facts.Facts.Facts};
 ghost use Rattle.decide.specs.Verdict.{IsJudged, IsVerdict, IsPlan, PlanValue, VerdictValue, Allowed, Denied};
-ghost use Rattle.decide.specs.declared.facts.ClockFacts.{ClockFacts};
-ghost use Rattle.decide.specs.declared.facts.Facts.{Facts};
 
 use tsp::requests_have_one_reading;
 
@@ -78,8 +75,8 @@ pub fn gen_times_are_one()
         → IsGoodAt counter facts second → first ≡ second }
 {}
 
-/// Wherever a token may be given, its genTime keeps the accuracy: each moment that is at most the clock's deviation away
-/// from now is at most the accuracy away from the genTime.
+/// Wherever a token may be given, its genTime keeps the accuracy: each moment that is at most the clock's deviation
+/// away from now is at most the accuracy away from the genTime.
 pub fn good_clocks_keep_the_accuracy()
     ensures { (counter : CounterValue) (facts : ClockFacts) (moment : ℕ) → IsGoodAt counter facts moment
         → KeepsAccuracy counter facts moment }

@@ -1,16 +1,12 @@
 //! The rules, each judged by itself.
 ghost use Rattle.std.specs.Prelude.{◌≡◌, ◌↔◌, ◌==◌, ◌||◌, ◌&&◌, not, false, Some, option_map, map, string_bytes};
-ghost use Rattle.std.specs.Prelude.{IsTrue, MatchOption};
-ghost use Rattle.std.specs.List.{list_all, list_any};
-ghost use Rattle.std.specs.Str.{bytes_eq};
+ghost use Rattle.std.specs.{Prelude.IsTrue, Prelude.MatchOption, List.list_all, List.list_any, Str.bytes_eq};
 ghost use Rattle.der.specs.ObjectIdentifier.{oid_content};
-ghost use Rattle.policy.specs.Kinds.{is_among};
-ghost use Rattle.policy.specs.View.{policy_view, account_view};
-ghost use Rattle.tsp.specs.Rules.{HasKnownAlgorithm, HasAlgorithmLength};
-ghost use Rattle.tsp.specs.View.{extension_view, request_view};
+ghost use Rattle.policy.specs.{Kinds.is_among, View.policy_view, View.account_view};
+ghost use Rattle.tsp.specs.{Rules.HasKnownAlgorithm, Rules.HasAlgorithmLength, View.extension_view, View.request_view};
 ghost use Rattle.decide.specs.Rules.{algorithms_of, policy_asked, IsAccepted, AllowsAlgorithm, AllowsExtensions};
-ghost use Rattle.decide.specs.Rules.{GivesCertificate, IsWithinQuota};
-ghost use Rattle.decide.specs.Tests.{lists_algorithm, knows_extension, knows_extensions, stands_once, stand_once};
+ghost use Rattle.decide.specs.{Rules.GivesCertificate, Rules.IsWithinQuota, auxiliary.Tests.stand_once};
+ghost use Rattle.decide.specs.auxiliary.Tests.{lists_algorithm, knows_extension, knows_extensions, stands_once};
 
 use der::{Oid, oids_have_one_content_and_text};
 use policy::{Account, Algorithm, Extension as KnownExtension, Policy, TsaPolicy};

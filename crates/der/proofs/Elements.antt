@@ -1,13 +1,10 @@
 -- An element at the front of octets: where it ends, and that there is one at most.
 use Rattle.std.proofs.Common.{◌≡◌, ℕ, ◌-◌, ◌%◌, ◌<◌, ◌^◌, ◌==◌, Bool, true, false, not, List, ◌++◌, length, take, drop}
 use Rattle.std.proofs.Common.{Ok, Err, refl, sym, ap, ◌∙◌, arith}
-use Rattle.std.proofs.lemmas.Bool.{eq-eqb, ne_eqb, eqb-true}
-use Rattle.std.proofs.lemmas.List.{length-append}
+use Rattle.std.proofs.lemmas.{Bool.eq-eqb, Bool.ne_eqb, Bool.eqb-true, List.length-append}
 use Rattle.std.proofs.Math.Seq.{take-append_seam, drop-append_seam}
-use Rattle.der.specs.Node.{element}
-use Rattle.der.specs.FirstFault.{Piece, element_at, expected_at}
-use Rattle.der.specs.declared.fault.DerFault.{DerFault}
-use Rattle.der.specs.declared.fault.DerFault.TheVariants.{WrongKind}
+use Rattle.der.specs.{Node.element, FirstFault.Piece, FirstFault.element_at, FirstFault.expected_at}
+use Rattle.der.specs.declared.fault.DerFault.{DerFault, TheVariants.WrongKind}
 use Rattle.der.proofs.ReadingSteps.{ok_is, err_is_not}
 use Rattle.der.proofs.ReadingElements.{piece, element_at-element}
 

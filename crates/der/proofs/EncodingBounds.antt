@@ -2,9 +2,7 @@
 use Rattle.std.proofs.Common.{◌≡◌, ℕ, ◌+◌, ◌<◌, ◌≤◌, ◌^◌, Bool, true, false, List, [], ◌∷◌, length, nat_lt}
 use Rattle.std.proofs.Common.{if◌then◌else◌, refl, sym, subst, arith}
 use Rattle.std.specs.Int.Digits.{digits_of}
-use Rattle.std.proofs.lemmas.Int.Digits.{all_below_base_digits_of}
-use Rattle.std.proofs.lemmas.Bool.{ltb-true, ltb-false}
-use Rattle.std.proofs.lemmas.List.{length-append}
+use Rattle.std.proofs.lemmas.{Int.Digits.all_below_base_digits_of, Bool.ltb-true, Bool.ltb-false, List.length-append}
 use Rattle.der.specs.Node.{Node, primitive, constructed, Nodes, no_nodes, node, length_octets, element, encoding}
 use Rattle.der.specs.Node.{encodings, contents_octets, IsFormed, AreFormed, AreOctets}
 use Rattle.der.proofs.Lengths.{length_octets_short, length_octets_long, length_of_digits}
@@ -18,7 +16,8 @@ pub record IsLengthOctets (octets : List ℕ) : Type 0 where
 
 by_size : (b : Bool) (n : ℕ) → nat_lt n 128 ≡ b → n < 2 ^ 24 → IsLengthOctets (length_octets n)
 by_size true n short small =
-    subst IsLengthOctets (sym (length_octets_short n (ltb-true n 128 short)))
+    let below = ltb-true n 128 short in
+    subst IsLengthOctets (sym (length_octets_short n below))
     (record { octets_hold = (omega arith, tt); some = omega arith; few = omega arith })
 by_size false n long small =
     let low = ltb-false n 128 long in

@@ -1,25 +1,35 @@
--- The length octets of fewer than 2 ^ 24 contents octets, case by case.
+-- The digits of a number in base 256, and the length octets that they are, case by case below 2 ^ 24.
 use Rattle.std.proofs.Common.{◌≡◌, ℕ, ◌+◌, ◌/◌, ◌%◌, ◌<◌, ◌≤◌, ◌^◌, [], ◌∷◌, ◌++◌, length, rules, ap, ◌∙◌, arith}
-use Rattle.std.specs.Int.Digits.{digits_of}
+use Rattle.std.{specs.Int.Digits.digits_of, proofs.lemmas.Bool.Decides.nat_tests}
 use Rattle.std.proofs.lemmas.Int.Digits.{digits_of_step, length-digits_of-le, length-digits_of_step}
-use Rattle.std.proofs.lemmas.Bool.Decides.{nat_tests}
-use Rattle.der.specs.Node.{length_octets}
-use Rattle.der.proofs.Digits.{digits_of_digit}
+use Rattle.der.{specs.Node.length_octets, proofs.Digits.digits_of_digit}
 
-one_digit : (n : ℕ) → 0 < n → n < 256 → digits_of 256 n ≡ n ∷ []
+pub digits_of_last : (n : ℕ) → 256 ≤ n → digits_of 256 n ≡ digits_of 256 (n / 256) ++ (n % 256 ∷ [])
+digits_of_last n low = digits_of_step 256 n (omega arith) (omega arith)
+
+pub digit_count_last : (n : ℕ) → 256 ≤ n → length (digits_of 256 n) ≡ length (digits_of 256 (n / 256)) + 1
+digit_count_last n low = length-digits_of_step 256 n (omega arith) (omega arith)
+
+pub one_digit : (n : ℕ) → 0 < n → n < 256 → digits_of 256 n ≡ n ∷ []
 one_digit n some small = digits_of_digit 256 n (omega arith) small some
+
+pub digit_count_one : (n : ℕ) → 0 < n → n < 256 → length (digits_of 256 n) ≡ 1
+digit_count_one n some small = ap length (one_digit n some small)
+
+pub digit_count_few : (n : ℕ) → n < 2 ^ 64 → length (digits_of 256 n) ≤ 8
+digit_count_few n small = length-digits_of-le 256 8 n (omega arith) small
 
 two_digits : (n : ℕ) → 256 ≤ n → n < 65536 → digits_of 256 n ≡ n / 256 ∷ n % 256 ∷ []
 two_digits n low high =
-    digits_of_step 256 n (omega arith) (omega arith)
+    digits_of_last n (omega arith)
     ∙ ap (λ front. front ++ (n % 256 ∷ [])) (one_digit (n / 256) (omega arith) (omega arith))
 
 three_digits : (n : ℕ) → 65536 ≤ n → n < 16777216 → digits_of 256 n ≡ n / 256 / 256 ∷ n / 256 % 256 ∷ n % 256 ∷ []
 three_digits n low high =
-    digits_of_step 256 n (omega arith) (omega arith)
+    digits_of_last n (omega arith)
     ∙ ap (λ front. front ++ (n % 256 ∷ [])) (two_digits (n / 256) (omega arith) (omega arith))
 
-pub length_octets_short : (n : ℕ) → n < 128 → length_octets n ≡ n % 256 ∷ []
+pub length_octets_short : (n : ℕ) → n < 128 → length_octets n ≡ n ∷ []
 unfolding length_octets
 length_octets_short n small = grind (arith, nat_tests)
 

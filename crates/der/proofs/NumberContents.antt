@@ -2,19 +2,14 @@
 use Rattle.std.proofs.Common.{◌≡◌, ℕ, zero, suc, ◌+◌, ◌-◌, ◌*◌, ◌/◌, ◌%◌, ◌^◌, ◌<◌, ◌≤◌, ℤ, pos, negsuc, Bool, true}
 use Rattle.std.proofs.Common.{false, cond, ltb, eqb, leb, List, [], ◌∷◌, ◌++◌, length, get_or, refl, sym, ap, subst}
 use Rattle.std.proofs.Common.{◌∙◌, ⊎_elim, lit<, arith, append_assoc, reverse, take, drop, IsTrue, ◌↔◌}
-use Rattle.std.specs.Int.Signed.{lt_z}
-use Rattle.std.proofs.Math.IntN.{nat_abs}
-use Rattle.std.specs.Int.Digits.{digits_of, number_from_digits, number_from_digits_after}
+use Rattle.std.specs.Int.{Signed.lt_z, Digits.digits_of, Digits.number_from_digits, Digits.number_from_digits_after}
+use Rattle.std.proofs.Math.{IntN.nat_abs, Nat.pow-suc}
 use Rattle.std.proofs.lemmas.Bool.{true≢false, cases_lt, cases_eq, lt-ltb, le-ltb, cond-true, cond-false, ltb-true}
 use Rattle.std.proofs.lemmas.Int.Digits.{digits_of_step, first_digits_of, number_digits_of, all_below_base_digits_of}
-use Rattle.std.proofs.lemmas.Int.Digits.{number_after_lt}
+use Rattle.std.proofs.lemmas.{Int.Digits.number_after_lt, Bool.Decides.nat_tests, Nat.mul-le}
 use Rattle.std.proofs.lemmas.List.{length-map, length_push, reverse-append, take_at}
-use Rattle.std.proofs.lemmas.Bool.Decides.{nat_tests}
-use Rattle.std.proofs.Math.Nat.{pow-suc}
-use Rattle.std.proofs.lemmas.Nat.{mul-le}
-use Rattle.der.specs.Node.{AreOctets}
+use Rattle.der.{specs.Node.AreOctets, proofs.Digits.digits_of_digit, proofs.Digits.digits_of-number}
 use Rattle.der.specs.Number.{number_content, with_sign, complement, twos_value, IsNumberContent, is_shortest}
-use Rattle.der.proofs.Digits.{digits_of_digit, digits_of-number}
 use Rattle.der.proofs.DigitsElements.{all-map, all-from_places, same_from_number}
 
 -- the contents of a number that is not negative

@@ -3,21 +3,18 @@ use Rattle.std.proofs.Common.{◌≡◌, ℕ, zero, suc, ◌+◌, ◌-◌, ◌*�
 use Rattle.std.proofs.Common.{ltb, eqb, leb, List, [], ◌∷◌, ◌++◌, length, get_or, map, Some, None, refl, sym, ap, subst}
 use Rattle.std.proofs.Common.{◌∙◌, ◌⊎◌, inl, inr, ⊎_elim, arith, append_assoc, Decides}
 use Rattle.std.specs.Int.Digits.{digits_of, number_from_digits, number_from_digits_after}
-use Rattle.std.specs.List.{AllByRecursion, list_all}
-use Rattle.std.specs.Str.{bytes_eq}
+use Rattle.std.specs.{List.AllByRecursion, List.list_all, Str.bytes_eq}
 use Rattle.std.proofs.lemmas.Bool.{cases_lt, lt-ltb, le-ltb, ltb-true, cond-true, cond-false, eqb-true, and_parts}
 use Rattle.std.proofs.lemmas.Bool.{leb-true, le-leb, false_from_ne_true}
 use Rattle.std.proofs.lemmas.Bool.Decides.{Decides-and, Decides-ltb, same_from_decides}
 use Rattle.std.proofs.lemmas.Int.Digits.{digits_of_step, first_digits_of, number_digits_of, all_below_base_digits_of}
 use Rattle.std.proofs.lemmas.Int.Digits.{number_after_ge, length-digits_of-le}
 use Rattle.std.proofs.lemmas.List.{append-nil, map-append, length-map, length_push, length-append}
-use Rattle.std.proofs.lemmas.Nat.{div-mul-add, mod-mul-add, div-add-mod'}
-use Rattle.std.proofs.lemmas.Slice.Eq.{bytes_eq-Decides}
+use Rattle.std.proofs.lemmas.{Nat.div-mul-add, Nat.mod-mul-add, Nat.div-add-mod', Slice.Eq.bytes_eq-Decides}
 use Rattle.der.specs.Node.{AreOctets}
 use Rattle.der.specs.ObjectIdentifier.{IsOid, ReadsAsOid, with_continuation, subidentifier_octets, oid_content}
 use Rattle.der.specs.ObjectIdentifier.{subidentifiers_after, subidentifiers_of, is_oid, oid_of}
-use Rattle.der.proofs.Digits.{digits_of_push}
-use Rattle.der.proofs.DigitsElements.{all-append, all-map}
+use Rattle.der.proofs.{Digits.digits_of_push, DigitsElements.all-append, DigitsElements.all-map}
 
 -- ---- octets of a subidentifier
 

@@ -1,15 +1,12 @@
 -- The loop that tells the contents of object identifiers from other octets.
 use Rattle.std.proofs.Common.{◌≡◌, ℕ, ◌+◌, ◌-◌, ◌*◌, ◌^◌, ◌<◌, ◌≤◌, Bool, true, false, List, ◌∷◌, length, drop, get_or}
 use Rattle.std.proofs.Common.{IsTrue, ◌↔◌, refl, sym, ap, subst, ◌∙◌, arith, eqb, ltb}
-use Rattle.std.specs.Option.{is_some}
+use Rattle.std.{specs.Option.is_some, proofs.lemmas.List.drop_more, proofs.lemmas.List.drop_all}
 use Rattle.std.proofs.lemmas.Bool.{eqb-true, eqb-false, eq-eqb, false≢true, le-ltb}
-use Rattle.std.proofs.lemmas.List.{drop_more, drop_all}
-use Rattle.der.specs.Node.{AreOctets}
+use Rattle.der.{specs.Node.AreOctets, proofs.DigitsElements.all-from_places, proofs.OidContents.ReadsAsOid-written}
 use Rattle.der.specs.ObjectIdentifier.{IsOidContent, ReadsAsOid, subidentifiers_after, subidentifiers_of, oid_of}
-use Rattle.der.proofs.DigitsElements.{all-from_places}
-use Rattle.der.proofs.OidContents.{fits, fits-more, fits-large, fits-padded}
-use Rattle.der.proofs.OidContents.{subidentifiers_after-more, ReadsAsOid-from_fits, fits-from_ReadsAsOid}
-use Rattle.der.proofs.OidContents.{oid_of-contents, oid_of-others, ReadsAsOid-written}
+use Rattle.der.proofs.OidContents.{fits, fits-more, fits-large, fits-padded, subidentifiers_after-more}
+use Rattle.der.proofs.OidContents.{ReadsAsOid-from_fits, fits-from_ReadsAsOid, oid_of-contents, oid_of-others}
 
 -- i octets are read: count subidentifiers, and n of the next
 pub record IsReadSoFar (os : List ℕ) (i n count : ℕ) : Type 0 where

@@ -235,9 +235,6 @@ no_number text none n rest h = let e : None ≡ reading n rest = sym none ∙ nu
 pub record IsNumberSoFar (text : List ℕ) (i n : ℕ) : Type 0 where
   pub same : number_from (ltb 0 i) n (drop i text) ≡ number_from false 0 text
 
-pub number_none : (text : List ℕ) → IsNumberSoFar text 0 0
-number_none text = record { same = refl }
-
 here : (text : List ℕ) (i n c : ℕ) → i < length text → c ≡ get_or text i 0 → IsNumberSoFar text i n
     → number_from (ltb 0 i) n (c ∷ drop (i + 1) text) ≡ number_from false 0 text
 here text i n c within at h =

@@ -1,20 +1,13 @@
 -- The text of an object identifier, read.
-use Rattle.std.proofs.Common.{◌≡◌, ℕ, zero, suc, ◌+◌, ◌-◌, ◌*◌, ◌<◌, Bool, true, false, ◌&&◌, eqb, ◌^◌}
-use Rattle.std.proofs.Common.{Decides, List, [], ◌∷◌, ◌++◌, map, Some, None, refl, sym, ap, subst, ◌∙◌, arith}
+use Rattle.std.proofs.Common.{◌≡◌, ℕ, zero, suc, ◌+◌, ◌-◌, ◌*◌, ◌<◌, Bool, true, false, ◌&&◌, eqb, ◌^◌, Decides, List}
+use Rattle.std.proofs.Common.{[], ◌∷◌, ◌++◌, map, Some, None, refl, sym, ap, subst, ◌∙◌, arith}
 use Rattle.std.specs.Int.Digits.{digits_of, number_from_digits_after}
-use Rattle.std.specs.List.{flat_map}
-use Rattle.std.specs.Prelude.{if◌then◌else◌}
-use Rattle.std.specs.Str.{bytes_eq}
-use Rattle.std.proofs.lemmas.Option.{same_Some}
-use Rattle.std.proofs.lemmas.Bool.{ne_eqb, cond-false, cond-true}
-use Rattle.std.proofs.lemmas.Bool.Decides.{nat_tests, Decides-and}
-use Rattle.std.proofs.lemmas.Int.Digits.{number_digits_of}
-use Rattle.std.proofs.lemmas.Slice.Eq.{bytes_eq-Decides}
+use Rattle.std.specs.{List.flat_map, Str.bytes_eq, Prelude.if◌then◌else◌}
+use Rattle.std.proofs.lemmas.{Option.same_Some, Slice.Eq.bytes_eq-Decides, Int.Digits.number_digits_of}
+use Rattle.std.proofs.lemmas.Bool.{ne_eqb, cond-false, cond-true, Decides.nat_tests, Decides.Decides-and}
 use Rattle.der.specs.ObjectIdentifier.{IsOid, is_oid, oid_text, decimal, dotted, first_arc, AreOthers, IsNumberAt}
-use Rattle.der.specs.ObjectIdentifier.{IsDottedNumberAt}
-use Rattle.der.specs.OidText.{arcs_after, joined, oid_of_text}
-use Rattle.der.proofs.OidContents.{is_oid-decides}
-use Rattle.der.proofs.OidTexts.{parsed}
+use Rattle.der.specs.{ObjectIdentifier.IsDottedNumberAt, OidText.arcs_after, OidText.joined, OidText.oid_of_text}
+use Rattle.der.proofs.{OidContents.is_oid-decides, OidTexts.parsed}
 
 digit_step : (n d : ℕ) (cs : List ℕ) → arcs_after n ((48 + d) ∷ cs) ≡ arcs_after (n * 10 + d) cs
 digit_step n d cs =

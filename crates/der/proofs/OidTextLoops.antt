@@ -1,17 +1,14 @@
 -- The loops over a text's numbers, and over the octets of which a text is written.
 use Rattle.std.proofs.Common.{◌≡◌, ℕ, ◌+◌, ◌-◌, ◌*◌, ◌^◌, ◌<◌, ◌≤◌, true, List, [], ◌∷◌, ◌++◌, length, drop, get_or}
-use Rattle.std.proofs.Common.{refl, sym, ap, subst, ◌∙◌, arith, append_assoc, length-append, false}
-use Rattle.std.proofs.Common.{Result, Ok, Err, OnOk}
-use Rattle.std.specs.Result.{is_ok}
-use Rattle.std.specs.List.{flat_map}
-use Rattle.std.proofs.lemmas.List.{append-nil, drop_more, drop_all, flat_map_more, length_push}
+use Rattle.std.proofs.Common.{refl, sym, ap, subst, ◌∙◌, arith, append_assoc, length-append, false, Result, Ok, Err}
+use Rattle.std.{proofs.Common.OnOk, specs.Result.is_ok, specs.List.flat_map}
+use Rattle.std.proofs.lemmas.List.{append-nil, drop_more, flat_map_more, length_push}
 use Rattle.der.specs.ObjectIdentifier.{ReadsAsOid, subidentifier_octets, oid_content, subidentifiers_after}
 use Rattle.der.specs.ObjectIdentifier.{subidentifiers_of, decimal, dotted, first_arc, oid_text, AreOthers}
 use Rattle.der.specs.ObjectIdentifier.{IsDottedNumberAt}
-use Rattle.der.proofs.DigitsElements.{all-append}
-use Rattle.der.proofs.OidContents.{AreSmall, fits, fits_parts, fits_parts_last, fits_parts_more, fits-from_ReadsAsOid}
+use Rattle.der.proofs.{DigitsElements.all-append, OidTexts.dotted_head, OidTexts.dotted_of}
+use Rattle.der.proofs.OidContents.{AreSmall, fits, fits_parts_last, fits_parts_more, fits-from_ReadsAsOid}
 use Rattle.der.proofs.OidContents.{subidentifiers_after-last, subidentifiers_after-more}
-use Rattle.der.proofs.OidTexts.{dotted_head, dotted_of}
 
 -- ---- reading
 
@@ -115,10 +112,6 @@ readable_at : (os text : List ℕ) (i n c : ℕ) → i < length os → c ≡ get
     → fits n (c ∷ drop (i + 1) os) ≡ true
 readable_at os text i n c within at h = sym (ap (fits n) (at_octet os i c within at)) ∙ h.readable
 
-pub written_small : (os text : List ℕ) (i n c : ℕ) → i < length os → c ≡ get_or os i 0 → IsWrittenSoFar os text i n
-    → n < 2 ^ 121
-written_small os text i n c within at h = (fits_parts n c (drop (i + 1) os) (readable_at os text i n c within at h)).0
-
 pub written_more : (os text : List ℕ) (i n c : ℕ) → i < length os → c ≡ get_or os i 0 → IsWrittenSoFar os text i n
     → 128 ≤ c → IsWrittenSoFar os text (i + 1) (n * 128 + (c - 128))
 written_more os text i n c within at h high = record {
@@ -179,15 +172,6 @@ pub written_other : (os text new : List ℕ) (i n c : ℕ) → i < length os →
     → c < 128 → 0 < length text → new ≡ text ++ dotted (n * 128 + c) → IsWrittenSoFar os new (i + 1) 0
 written_other os text new i n c within at h low some push =
     written_last os text new i n c within at h low (λ ss. after_some text new ss (n * 128 + c) some push)
-
-ended : (text : List ℕ) → text_after text [] ≡ text
-ended [] = refl
-ended (c ∷ cs) = append-nil (c ∷ cs)
-
-pub written_all : (os text : List ℕ) (i n : ℕ) → length os ≤ i → IsWrittenSoFar os text i n
-    → text ≡ oid_text (subidentifiers_of os)
-written_all os text i n end h = sym (ended text)
-    ∙ (sym (ap (λ k. text_after text (subidentifiers_after n k)) (drop_all i os end)) ∙ h.text_is)
 
 -- the same so far, under other names
 pub written_as : (os text text' : List ℕ) (i n n' : ℕ) → text ≡ text' → n ≡ n' → IsWrittenSoFar os text' i n'

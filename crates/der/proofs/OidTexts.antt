@@ -1,18 +1,13 @@
 -- Texts of object identifiers, written and read.
 use Rattle.std.proofs.Common.{◌≡◌, ℕ, ◌+◌, ◌-◌, ◌*◌, ◌/◌, ◌%◌, ◌^◌, ◌<◌, ◌≤◌, List, [], ◌∷◌, ◌++◌, refl, sym, ap, subst}
 use Rattle.std.proofs.Common.{◌∙◌, inl, lit<, arith, append_assoc, Result, Ok, Err, OnOk, if◌then◌else◌}
-use Rattle.std.specs.Result.{is_ok}
-use Rattle.std.proofs.lemmas.Bool.Decides.{nat_tests}
-use Rattle.std.specs.Int.Digits.{digits_of}
-use Rattle.std.specs.List.{flat_map}
-use Rattle.std.proofs.lemmas.Int.Digits.{digits_of_step}
-use Rattle.std.proofs.lemmas.List.{map-append}
+use Rattle.std.specs.{Result.is_ok, List.flat_map, Int.Digits.digits_of}
+use Rattle.std.proofs.lemmas.{Bool.Decides.nat_tests, List.map-append, Int.Digits.digits_of_step}
 use Rattle.der.specs.ObjectIdentifier.{IsOid, ReadsAsOid, subidentifiers_of, subidentifier_octets, oid_content, decimal}
 use Rattle.der.specs.ObjectIdentifier.{dotted, first_arc, oid_text, AreOthers, IsNumberAt, IsDottedNumberAt}
 use Rattle.der.specs.ObjectIdentifier.{BeginsWithoutDigit}
 use Rattle.der.proofs.OidContents.{continued, subidentifier_octets-split, AreSmall, ReadsAsOid-written}
-use Rattle.der.proofs.OidContents.{subidentifiers_of-written}
-use Rattle.der.proofs.OidNumbers.{same_number}
+use Rattle.der.proofs.{OidContents.subidentifiers_of-written, OidNumbers.same_number}
 
 -- ---- octets pushed
 
@@ -90,10 +85,6 @@ same_from_dotted (x ∷ xs) (y ∷ ys) p q e =
     cc
 
 -- ---- the first two numbers of a text
-
--- the text of s and what stands after it
-abbrev first_of : ℕ → List ℕ → List ℕ
-first_of s rest = decimal (first_arc s) ++ (dotted (s - 40 * first_arc s) ++ rest)
 
 first_number : (s : ℕ) (ss : List ℕ) → s < 2 ^ 128
     → IsNumberAt (oid_text (s ∷ ss)) (first_arc s) (flat_map dotted ((s - 40 * first_arc s) ∷ ss))

@@ -7,8 +7,7 @@ use Rattle.std.proofs.Math.Seq.{take-append_seam, drop-append_seam}
 use Rattle.der.specs.Node.{length_octets, element, AreOctets}
 use Rattle.der.specs.FirstFault.{Piece, identifier_at, length_at, contents_at, element_at}
 use Rattle.der.specs.declared.fault.DerFault.TheVariants.{Truncated, HighTag}
-use Rattle.der.proofs.Octets.{AreOctets-parts}
-use Rattle.der.proofs.ReadingSteps.{ok_is, else_ok, bind_ok}
+use Rattle.der.proofs.{Octets.AreOctets-parts, ReadingSteps.ok_is, ReadingSteps.else_ok, ReadingSteps.bind_ok}
 use Rattle.der.proofs.ReadingLengths.{length_at-length_octets, length_at_reads}
 
 abbrev pub piece : ℕ → List ℕ → List ℕ → Piece

@@ -1,21 +1,16 @@
 -- Reading length octets gives the number that they were written for, and no other octets are read as that number.
-use Rattle.std.proofs.Common.{◌≡◌, ℕ, ◌+◌, ◌-◌, ◌*◌, ◌%◌, ◌<◌, ◌≤◌, ◌^◌, ◌==◌, ◌||◌, Bool, true, false, List, [], ◌∷◌}
-use Rattle.std.proofs.Common.{◌++◌, length, get_or, take, drop, Result, Ok, Err, if◌then◌else◌, nat_lt, refl, sym, ap}
-use Rattle.std.proofs.Common.{ap₂, ◌∙◌, arith}
+use Rattle.std.proofs.Common.{◌≡◌, ℕ, ◌+◌, ◌-◌, ◌*◌, ◌<◌, ◌≤◌, ◌^◌, ◌==◌, ◌||◌, Bool, true, false, List, [], ◌∷◌, ◌++◌}
+use Rattle.std.proofs.Common.{length, get_or, take, drop, Result, Ok, Err, if◌then◌else◌, nat_lt, refl, sym, ap, ap₂}
+use Rattle.std.proofs.{Common.◌∙◌, Common.arith, Math.Seq.take-append_seam, Math.Seq.drop-append_seam}
 use Rattle.std.specs.Int.Digits.{digits_of, number_from_digits}
 use Rattle.std.proofs.lemmas.Int.Digits.{number_after_ge, number_digits_of, first_digits_of, all_below_base_digits_of}
-use Rattle.std.proofs.lemmas.Bool.{ltb-false, le-ltb}
-use Rattle.std.proofs.lemmas.Bool.Decides.{nat_tests}
-use Rattle.std.proofs.lemmas.Slice.Eq.{bytes_eq-Decides}
+use Rattle.std.proofs.lemmas.{Bool.ltb-false, Bool.le-ltb, Bool.Decides.nat_tests, Slice.Eq.bytes_eq-Decides}
 use Rattle.std.proofs.lemmas.List.{length-append, take-append-drop, length-take-le}
-use Rattle.std.proofs.Math.Seq.{take-append_seam, drop-append_seam}
-use Rattle.der.specs.Node.{length_octets, AreOctets}
+use Rattle.der.specs.{Node.length_octets, Node.AreOctets, declared.fault.DerFault.DerFault}
 use Rattle.der.specs.FirstFault.{is_length_of, long_length, length_at}
-use Rattle.der.specs.declared.fault.DerFault.{DerFault}
 use Rattle.der.specs.declared.fault.DerFault.TheVariants.{Truncated, LengthForm, TooLong}
-use Rattle.der.proofs.Digits.{digits_of-number}
+use Rattle.der.proofs.{Digits.digits_of-number, Octets.AreOctets-take}
 use Rattle.der.proofs.Lengths.{length_octets_short, length_octets_long, length_of_digits}
-use Rattle.der.proofs.Octets.{AreOctets-take}
 use Rattle.der.proofs.ReadingSteps.{ok_is, err_is_not, else_ok, then_ok}
 
 -- octets without a leading zero are the length octets of their number, where that is at least 128
@@ -35,8 +30,8 @@ from_length_by : (b : Bool) (n : ℕ) (octets : List ℕ) → nat_lt n 128 ≡ b
     → (128 + length octets) ∷ octets ≡ length_octets n → (128 ≤ n) × (octets ≡ digits_of 256 n)
 from_length_by true n octets is e =
     let small : n < 128 = grind (arith, nat_tests) in
-    let one : (128 + length octets) ∷ octets ≡ n % 256 ∷ [] = e ∙ length_octets_short n small in
-    let first : 128 + length octets ≡ n % 256 = ap (λ os. get_or os 0 0) one in
+    let one : (128 + length octets) ∷ octets ≡ n ∷ [] = e ∙ length_octets_short n small in
+    let first : 128 + length octets ≡ n = ap (λ os. get_or os 0 0) one in
     absurd (omega arith)
 from_length_by false n octets is e =
     let low = ltb-false n 128 is in
@@ -156,8 +151,7 @@ written_long n rest low high =
 
 written_short : (n : ℕ) (rest : List ℕ) → n < 128 → length_at (length_octets n ++ rest) ≡ Ok (n, rest)
 written_short n rest small =
-    ap (λ octets. length_at (octets ++ rest)) (length_octets_short n small ∙ ap (λ octet. octet ∷ []) (omega arith))
-    ∙ length_at_short n rest small
+    ap (λ octets. length_at (octets ++ rest)) (length_octets_short n small) ∙ length_at_short n rest small
 
 written_by : (b : Bool) (n : ℕ) (rest : List ℕ) → nat_lt n 128 ≡ b → n < 2 ^ 24
     → length_at (length_octets n ++ rest) ≡ Ok (n, rest)

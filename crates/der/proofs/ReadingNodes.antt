@@ -6,8 +6,7 @@ use Rattle.std.proofs.lemmas.List.{length-append, append-nil}
 use Rattle.der.specs.Node.{Node, primitive, constructed, Nodes, no_nodes, node, length_octets, element, encoding}
 use Rattle.der.specs.Node.{encodings, levels, levels_of, bit_six, IsFormed, AreFormed, AreOctets, IsLawful}
 use Rattle.der.specs.FirstFault.{◌>>=◌, Piece, element_at, nodes_with, node_of, node_at, tree_of}
-use Rattle.der.specs.declared.fault.DerFault.{DerFault}
-use Rattle.der.specs.declared.fault.DerFault.TheVariants.{Trailing, TooDeep}
+use Rattle.der.specs.declared.fault.DerFault.{DerFault, TheVariants.Trailing, TheVariants.TooDeep}
 use Rattle.der.proofs.Octets.{AreOctets-parts}
 use Rattle.der.proofs.ReadingSteps.{ok_is, err_is_not, then_ok, bind_ok}
 use Rattle.der.proofs.ReadingElements.{ReadsElement, element_at-element, element_at_reads}

@@ -4,9 +4,8 @@ use Rattle.std.proofs.Common.{Err, refl, sym, ap, ◌∙◌, arith}
 use Rattle.der.specs.Node.{Node, primitive, constructed, Nodes, no_nodes, node, bit_six}
 use Rattle.der.specs.Tree.{nodes}
 use Rattle.der.specs.FirstFault.{◌>>=◌, IsFaultOf, Piece, element_at, nodes_with, node_of, node_at}
-use Rattle.der.specs.declared.fault.DerFault.{DerFault}
+use Rattle.der.specs.declared.fault.DerFault.{DerFault, TheVariants.Trailing, TheVariants.BadValue, TheVariants.Memory}
 use Rattle.der.specs.declared.fault.DerFault.TheVariants.{Truncated, LengthForm, HighTag, WrongKind, TooDeep, TooLong}
-use Rattle.der.specs.declared.fault.DerFault.TheVariants.{Trailing, BadValue, Memory}
 
 abbrev Reader : Type 0
 Reader = List ℕ → Result (Node × List ℕ) DerFault

@@ -1,7 +1,6 @@
 -- What a reading that succeeds tells of each of its steps.
 use Rattle.std.proofs.Common.{◌≡◌, if◌then◌else◌, Bool, true, false, Result, Ok, Err, refl}
-use Rattle.der.specs.FirstFault.{◌>>=◌}
-use Rattle.der.specs.declared.fault.DerFault.{DerFault}
+use Rattle.der.specs.{FirstFault.◌>>=◌, declared.fault.DerFault.DerFault}
 
 pub ok_is : {A : Type 0} (x y : A) → ◌≡◌ {A = Result A DerFault} (Ok x) (Ok y) → x ≡ y
 ok_is x y e = cc

@@ -3,12 +3,9 @@ use Rattle.std.proofs.Common.{◌≡◌, ℕ, ◌<◌, ◌==◌, true, false, Li
 use Rattle.std.proofs.lemmas.Bool.{eq-eqb, ne_eqb}
 use Rattle.der.specs.Node.{Node, encoding, IsLawful}
 use Rattle.der.specs.FirstFault.{IsFaultOf, node_at, tree_of}
-use Rattle.der.specs.declared.fault.DerFault.{DerFault}
+use Rattle.der.specs.declared.fault.DerFault.{DerFault, TheVariants.Trailing, TheVariants.BadValue, TheVariants.Memory}
 use Rattle.der.specs.declared.fault.DerFault.TheVariants.{Truncated, LengthForm, HighTag, WrongKind, TooDeep, TooLong}
-use Rattle.der.specs.declared.fault.DerFault.TheVariants.{Trailing, BadValue, Memory}
-use Rattle.der.proofs.ReadingSteps.{err_is_not}
-use Rattle.der.proofs.ReadingRuns.{IsFaultOf-along}
-use Rattle.der.proofs.ReadingNodes.{tree_of-encoding}
+use Rattle.der.proofs.{ReadingSteps.err_is_not, ReadingRuns.IsFaultOf-along, ReadingNodes.tree_of-encoding}
 
 -- nothing follows the value
 pub tree_of_alone : (octets : List ℕ) (n : Node) (rest : List ℕ) → node_at 32 octets ≡ Ok (n, rest) → length rest ≡ 0

@@ -1,12 +1,10 @@
 -- The definitions, computed on octets that are known from elsewhere.
 use Rattle.std.proofs.Common.{◌≡◌, pos, negsuc, [], ◌∷◌, refl, Ok, Err, Some, None}
 use Rattle.der.specs.Node.{Node, primitive, constructed, no_nodes, node, encoding, length_octets, levels, components_of}
-use Rattle.der.specs.Node.{contents_of, first_of, take_under}
-use Rattle.der.specs.Number.{number_content, twos_value}
+use Rattle.der.specs.{Node.contents_of, Node.first_of, Node.take_under, Number.number_content, Number.twos_value}
 use Rattle.der.specs.ObjectIdentifier.{oid_content, oid_text, subidentifier_octets, decimal}
 use Rattle.der.specs.FirstFault.{tree_of, node_at, node_of, nodes_with, element_at, identifier_at, length_at}
-use Rattle.der.specs.FirstFault.{contents_at}
-use Rattle.der.specs.FirstFault.{long_length, is_length_of}
+use Rattle.der.specs.FirstFault.{contents_at, long_length, is_length_of}
 use Rattle.der.specs.declared.fault.DerFault.TheVariants.{Truncated, LengthForm, HighTag, Trailing}
 
 -- 201 is 81 C9 (X.690 8.1.3.5's example)

@@ -2,15 +2,12 @@
 use Rattle.std.proofs.Common.{◌≡◌, ℕ, zero, suc, ◌-◌, ◌<◌, ◌≤◌, Bool, true, false, ◌&&◌, ◌==◌, List, [], ◌∷◌, length}
 use Rattle.std.proofs.Common.{Result, Ok, Err, MatchResult, ◌↔◌, nat_lt, is_ok, refl, sym, ap, subst, ◌∙◌, arith}
 use Rattle.std.specs.List.{list_all}
-use Rattle.std.proofs.lemmas.Bool.{ltb-true, lt-ltb}
-use Rattle.std.proofs.lemmas.List.{length-append}
+use Rattle.std.proofs.lemmas.{Bool.ltb-true, Bool.lt-ltb, List.length-append}
 use Rattle.der.specs.Node.{Node, primitive, constructed, Nodes, no_nodes, node, encoding, encodings, levels_of, bit_six}
-use Rattle.der.specs.Node.{AreOctets, AreFormed, IsLawful}
+use Rattle.der.specs.{Node.AreOctets, Node.AreFormed, Node.IsLawful, declared.fault.DerFault.DerFault}
 use Rattle.der.specs.FirstFault.{◌>>=◌, Piece, element_at, node_at, nodes_with, values_at, tree_of}
 use Rattle.der.specs.DataValue.{AreEncodings, read_or, value_in, values_in, is_value, are_values}
-use Rattle.der.specs.declared.fault.DerFault.{DerFault}
-use Rattle.der.proofs.Octets.{AreOctets-parts}
-use Rattle.der.proofs.ReadingSteps.{err_is_not}
+use Rattle.der.proofs.{Octets.AreOctets-parts, ReadingSteps.err_is_not}
 use Rattle.der.proofs.EncodingBounds.{AreOctets-encoding, AreOctets-encodings}
 use Rattle.der.proofs.ReadingNodes.{ReadsNode, ReadsNodes, node_at-encoding, node_at_reads, nodes_written, nodes_read}
 use Rattle.der.proofs.ReadingNodes.{nodes_with_none, encoding_some, tree_of-encoding, tree_of_reads}

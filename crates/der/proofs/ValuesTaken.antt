@@ -1,17 +1,14 @@
 -- What is taken from octets that hold lawful values.
 use Rattle.std.proofs.Common.{◌≡◌, ℕ, ◌%◌, ◌<◌, ◌≤◌, ◌^◌, ◌==◌, Bool, true, false, List, [], ◌∷◌, ◌++◌, length, Some}
 use Rattle.std.proofs.Common.{None, Ok, refl, sym, ap, ap₂, ◌∙◌, arith}
-use Rattle.std.proofs.lemmas.Bool.{eq-eqb, ne_eqb}
-use Rattle.std.proofs.lemmas.List.{length-append, append-nil}
+use Rattle.std.proofs.lemmas.{Bool.eq-eqb, Bool.ne_eqb, List.length-append, List.append-nil}
 use Rattle.der.specs.Node.{Node, primitive, constructed, Nodes, no_nodes, node, element, encoding, encodings}
 use Rattle.der.specs.Node.{contents_octets, identifier_of, contents_of, components_of, first_of, take_under, is_end}
 use Rattle.der.specs.Node.{levels_of, bit_six, IsLowTag, IsFormed, AreFormed, IsLawful, AreOctets}
-use Rattle.der.specs.FirstFault.{tree_of}
+use Rattle.der.{specs.FirstFault.tree_of, proofs.ReadingNodes.encoding_some, proofs.ReadingNodes.tree_of_reads}
 use Rattle.der.specs.DataValue.{value_in, values_in, is_value, are_values}
-use Rattle.der.proofs.Elements.{one_beginning}
-use Rattle.der.proofs.ReadingNodes.{encoding_some, tree_of_reads}
+use Rattle.der.proofs.{Elements.one_beginning, ValuesRead.values_in-encodings}
 use Rattle.der.proofs.ValuesRead.{holds_value, is_value-encoding, value_in-encoding, holds_values, are_values-encodings}
-use Rattle.der.proofs.ValuesRead.{values_in-encodings}
 
 encoding_is : (n : Node) → encoding n ≡ element (identifier_of n) (contents_octets n)
 encoding_is (primitive identifier contents) = refl

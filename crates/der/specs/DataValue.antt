@@ -1,9 +1,8 @@
 -- Values where they lie in octets.
 use Rattle.std.specs.Prelude.{◌≡◌, ℕ, ◌≤◌, Bool, ◌&&◌, nat_lt, List, [], Result, Ok, Err, is_ok}
 use Rattle.std.specs.List.{list_all}
-use Rattle.der.specs.FirstFault.{values_at, tree_of}
+use Rattle.der.specs.{FirstFault.values_at, FirstFault.tree_of, declared.fault.DerFault.DerFault}
 use Rattle.der.specs.Node.{Node, primitive, Nodes, no_nodes, encodings, levels_of, AreFormed}
-use Rattle.der.specs.declared.fault.DerFault.{DerFault}
 
 -- The octets are the encodings of formed values, one after the other, of at most that many levels.
 pub record AreEncodings (most : ℕ) (octets : List ℕ) : Type 0 where

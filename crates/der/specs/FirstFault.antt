@@ -2,12 +2,10 @@
 -- inside it, and of these the leftmost.
 use Rattle.std.specs.Prelude.{◌≡◌, ℕ, zero, suc, ◌+◌, ◌-◌, ◌%◌, ◌^◌, ◌==◌, ◌||◌, Bool, if◌then◌else◌, nat_lt, List, []}
 use Rattle.std.specs.Prelude.{◌∷◌, length, take, drop, Result, Ok, Err}
-use Rattle.std.specs.Int.Digits.{number_from_digits}
-use Rattle.std.specs.Str.{bytes_eq}
+use Rattle.std.specs.{Int.Digits.number_from_digits, Str.bytes_eq}
 use Rattle.der.specs.Node.{Node, primitive, constructed, Nodes, no_nodes, node, length_octets, bit_six}
-use Rattle.der.specs.declared.fault.DerFault.{DerFault}
+use Rattle.der.specs.declared.fault.DerFault.{DerFault, TheVariants.Trailing, TheVariants.BadValue, TheVariants.Memory}
 use Rattle.der.specs.declared.fault.DerFault.TheVariants.{Truncated, LengthForm, HighTag, WrongKind, TooDeep, TooLong}
-use Rattle.der.specs.declared.fault.DerFault.TheVariants.{Trailing, BadValue, Memory}
 
 infixl 10 ◌>>=◌
 abbrev pub ◌>>=◌ : {A B : Type 0} → Result A DerFault → (A → Result B DerFault) → Result B DerFault

@@ -6,5 +6,5 @@ pub mod Node
 pub mod Number
 pub mod ObjectIdentifier
 pub mod OidText
-pub mod Piece
 pub mod Tree
+pub mod auxiliary

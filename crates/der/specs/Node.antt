@@ -1,8 +1,7 @@
 -- Values under the Distinguished Encoding Rules, and their one encoding (X.690 8.1 and 10.1).
 use Rattle.std.specs.Prelude.{◌≡◌, ℕ, suc, max, ◌+◌, ◌/◌, ◌%◌, ◌^◌, ◌<◌, ◌≤◌, ◌==◌, Bool, true, false, if◌then◌else◌}
 use Rattle.std.specs.Prelude.{nat_lt, List, [], ◌∷◌, ◌++◌, length, Option, Some, None}
-use Rattle.std.specs.List.{AllByRecursion}
-use Rattle.std.specs.Int.Digits.{digits_of}
+use Rattle.std.specs.{List.AllByRecursion, Int.Digits.digits_of}
 
 mutual
   -- a value: an identifier octet, over contents octets or over further values

@@ -8,8 +8,8 @@ use Rattle.der.specs.Node.{AreOctets}
 abbrev pub complement : List ℕ → List ℕ
 complement octets = map (λ octet. 0xff - octet) octets
 
--- The two's complement value of octets, most significant first (X.690 8.3.3): with a first octet below 0x80 their number
--- in base 256; else -1 less the number of their complement.
+-- The two's complement value of octets, most significant first (X.690 8.3.3): with a first octet below 0x80 their
+-- number in base 256; else -1 less the number of their complement.
 abbrev pub twos_value : List ℕ → ℤ
 twos_value [] = pos 0
 twos_value (first ∷ others) =

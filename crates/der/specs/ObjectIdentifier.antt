@@ -2,9 +2,7 @@
 -- dots).
 use Rattle.std.specs.Prelude.{◌≡◌, ◌⊎◌, ℕ, ◌+◌, ◌-◌, ◌*◌, ◌^◌, ◌<◌, ◌≤◌, Bool, ◌&&◌, ◌==◌, if◌then◌else◌, nat_lt}
 use Rattle.std.specs.Prelude.{nat_le, List, [], ◌∷◌, ◌++◌, length, map, Option, Some, None}
-use Rattle.std.specs.List.{AllByRecursion, flat_map, list_all}
-use Rattle.std.specs.Str.{bytes_eq}
-use Rattle.std.specs.Int.Digits.{digits_of}
+use Rattle.std.specs.{List.AllByRecursion, List.flat_map, List.list_all, Str.bytes_eq, Int.Digits.digits_of}
 
 -- An object identifier is its subidentifiers, of which the first is 40 * X + Y for the arcs X and Y (X.690 8.19.4).
 -- Own limits: at most 32 of them, each below 2 ^ 128.

@@ -1,10 +1,8 @@
 -- The value that a `Tree` is.
 use Rattle.std.specs.Prelude.{◌≡◌, List, [], ◌∷◌, Result, Ok, Err}
 use Rattle.der.specs.Node.{Node, primitive, constructed, Nodes, no_nodes, node}
-use Rattle.der.specs.declared.fault.DerFault.{DerFault}
-use Rattle.der.specs.declared.fault.DerFault.TheVariants.{Memory}
-use Rattle.der.specs.declared.tree.Tree.{Tree, fold-Tree}
-use Rattle.der.specs.declared.tree.Tree.TheOpen.{Tree-F}
+use Rattle.der.specs.declared.fault.DerFault.{DerFault, TheVariants.Memory}
+use Rattle.der.specs.declared.tree.Tree.{Tree, fold-Tree, TheOpen.Tree-F}
 
 -- a list as values one after the other
 abbrev pub nodes : List Node → Nodes

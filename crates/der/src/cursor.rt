@@ -1,8 +1,7 @@
 //! Reading octets one element after the other, where they lie.
-ghost use Rattle.std.specs.Prelude.{◌≡◌, ℕ, ◌%◌, ◌<◌, ◌^◌, ◌↔◌, List, [], ◌++◌, length};
-ghost use Rattle.std.specs.Prelude.{Err, IfOk, IfErr, OnErr, MatchResult, IsTrue};
-ghost use Rattle.der.specs.FirstFault.{element_at, expected_at};
-ghost use Rattle.der.specs.Node.{element, AreOctets, IsLowTag};
+ghost use Rattle.std.specs.Prelude.{◌≡◌, ℕ, ◌%◌, ◌<◌, ◌^◌, ◌↔◌, List, [], ◌++◌, length, Err, IfOk, IfErr, OnErr};
+ghost use Rattle.std.specs.Prelude.{MatchResult, IsTrue};
+ghost use Rattle.der.specs.{FirstFault.element_at, FirstFault.expected_at, Node.element, Node.AreOctets, Node.IsLowTag};
 
 use crate::fault::DerFault;
 use crate::read::{Piece, read_element};

@@ -3,6 +3,7 @@
 
 mod cursor;
 mod data_value;
+mod encode;
 mod fault;
 mod number;
 mod oid;
@@ -14,6 +15,7 @@ mod writer;
 
 pub use cursor::{Cursor, Element, elements_have_one_beginning};
 pub use data_value::{DataValue, DataValues};
+pub use encode::{append_element, append_length, element_of};
 pub use fault::DerFault;
 pub use number::{is_number_content, numbers_have_one_content, whole_number_content};
 pub use oid::{Oid, is_oid_content, oids_have_one_content_and_text};

@@ -1,8 +1,7 @@
 ghost use Rattle.std.specs.Prelude.{◌≡◌, ℕ, ℤ, ◌<◌, ◌↔◌, true, List, length, IfOk, IfErr, IsTrue};
 ghost use Rattle.std.specs.Int.Digits.{digits_of};
-ghost use Rattle.der.specs.Node.{AreOctets};
+ghost use Rattle.der.specs.{Node.AreOctets, declared.fault.DerFault.TheVariants.Memory};
 ghost use Rattle.der.specs.Number.{IsNumberContent, number_content, twos_value, is_shortest, with_sign, complement};
-ghost use Rattle.der.specs.declared.fault.DerFault.TheVariants.{Memory};
 
 use crate::fault::DerFault;
 use std::alloc::Global;

@@ -1,12 +1,9 @@
 ghost use Rattle.std.specs.Prelude.{◌≡◌, ℕ, ◌*◌, ◌<◌, ◌≤◌, ◌↔◌, ◌⊎◌, nat_eq, List, length, None, Err, IfOk, IfErr};
-ghost use Rattle.std.specs.Prelude.{MatchResult, IsTrue, string_bytes};
-ghost use Rattle.std.specs.Option.{is_some};
-ghost use Rattle.std.specs.Cmp.Lexicographic.{pointwise};
+ghost use Rattle.std.specs.{Prelude.MatchResult, Prelude.IsTrue, Prelude.string_bytes, Option.is_some};
+ghost use Rattle.std.specs.Cmp.{Lexicographic.pointwise, partial_equiv_from_equiv};
 ghost use Rattle.std.proofs.lemmas.Cmp.{nat_list_eq_equiv};
-ghost use Rattle.std.specs.Cmp.{partial_equiv_from_equiv};
-ghost use Rattle.der.specs.Node.{AreOctets};
+ghost use Rattle.der.specs.{Node.AreOctets, OidText.oid_of_text};
 ghost use Rattle.der.specs.ObjectIdentifier.{IsOid, IsOidContent, oid_content, oid_text, subidentifiers_of, oid_of};
-ghost use Rattle.der.specs.OidText.{oid_of_text};
 ghost use Rattle.der.specs.declared.fault.DerFault.TheVariants.{BadValue, Memory};
 
 use crate::fault::DerFault;

@@ -1,10 +1,8 @@
 //! Reading a value, or refusing octets at their first fault.
 ghost use Rattle.std.specs.Prelude.{◌≡◌, ℕ, ◌<◌, ◌+◌, ◌*◌, List, length, map, IfOk, IfErr};
-ghost use Rattle.der.specs.Node.{Node, encoding, IsLawful};
-ghost use Rattle.der.specs.Piece.{piece_view};
-ghost use Rattle.der.specs.Tree.{view, nodes, IsRead};
+ghost use Rattle.der.specs.{Node.Node, Node.encoding, Node.IsLawful, FirstFault.node_at, FirstFault.nodes_with};
+ghost use Rattle.der.specs.{FirstFault.tree_of, auxiliary.Piece.piece_view, Tree.view, Tree.nodes, Tree.IsRead};
 ghost use Rattle.der.specs.FirstFault.{Gives, Reads, IsFaultOf, long_length, length_at, identifier_at, element_at};
-ghost use Rattle.der.specs.FirstFault.{node_at, nodes_with, tree_of};
 
 use crate::fault::DerFault;
 use crate::tag::Tag;

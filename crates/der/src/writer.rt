@@ -1,12 +1,13 @@
 //! Writing encodings from the inside outwards.
-ghost use Rattle.std.specs.Prelude.{◌≡◌, ℕ, ◌≤◌, ◌<◌, ◌^◌, ◌↔◌, ◌⊎◌, List, [], ◌++◌, length, OnOk, OnErr, IfOk, IfErr};
+ghost use Rattle.std.specs.Prelude.{◌≡◌, ℕ, ◌≤◌, ◌^◌, ◌↔◌, ◌⊎◌, List, [], ◌++◌, length, OnOk, OnErr, IfOk, IfErr};
 ghost use Rattle.std.specs.Prelude.{IsTrue};
-ghost use Rattle.der.specs.Node.{element, length_octets};
+ghost use Rattle.der.specs.Node.{element};
 ghost use Rattle.der.specs.declared.fault.DerFault.TheVariants.{TooLong, Memory};
 
+use crate::encode::append_element;
 use crate::fault::DerFault;
 use crate::tag::Tag;
-use std::alloc::{AllocError, Global};
+use std::alloc::Global;
 use std::marker::Model;
 
 /// Octets in the making. What is appended stands one after the other, until `wrap` makes all of it the contents of one
@@ -110,30 +111,10 @@ fn encoded_element(alloc: Global, tag: Tag, contents: &[u8]) -> Result<Vec<u8>, 
     ensures too_long { (result ≡ Err TooLong) ↔ (2 ^ 24 ≤ length contents.now) }
     ensures refusals { IfErr result (λ e. (e ≡ TooLong) ⊎ (e ≡ Memory)) }
 {
-    let count = contents.len();
-    if count >= 1 << 24 {
+    if contents.len() >= 1 << 24 {
         return Err(DerFault::TooLong);
     }
-    let mut encoded = Vec::with_capacity(alloc, count + 5)?;
-    encoded.push(tag.octet)?;
-    push_length(&mut encoded, count as u32)?;
-    encoded.extend_from_slice(contents)?;
+    let mut encoded = Vec::with_capacity(alloc, contents.len() + 5)?;
+    append_element(&mut encoded, tag, contents)?;
     Ok(encoded)
-}
-
-/// Writes the length octets of that many contents octets: one octet below 128, else how many follow and then the number
-/// in base 256.
-#[tactic(auto, using(crate::proofs::Lengths::length_octets_short, crate::proofs::Lengths::length_octets_one, crate::proofs::Lengths::length_octets_two, crate::proofs::Lengths::length_octets_three))]
-fn push_length(octets: &mut Vec<u8>, count: u32) -> Result<(), AllocError>
-    requires { count < 2 ^ 24 }
-    ensures { OnOk result (octets.new.items ≡ octets.old.items ++ length_octets count) }
-{
-    let [_, high, middle, low] = count.to_be_bytes();
-    match count {
-        0..=0x7f => octets.push(low)?,
-        0x80..=0xff => octets.extend_from_slice(&[0x81, low])?,
-        0x100..=0xffff => octets.extend_from_slice(&[0x82, middle, low])?,
-        _ => octets.extend_from_slice(&[0x83, high, middle, low])?,
-    }
-    Ok(())
 }

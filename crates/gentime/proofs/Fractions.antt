@@ -1,13 +1,10 @@
 -- The digits of a fraction and its microseconds name each other.
 use Rattle.std.proofs.Common.{◌≡◌, ℕ, ◌-◌, ◌+◌, ◌*◌, ◌/◌, ◌%◌, ◌<◌, ◌≤◌, eqb, List, [], ◌∷◌, ◌++◌, length, get_or, drop}
 use Rattle.std.proofs.Common.{add-one, drop-cons, refl, ap, ◌∙◌, arith}
-use Rattle.std.proofs.lemmas.Bool.{cond_both, eqb-true}
-use Rattle.std.proofs.lemmas.Nat.{mul-le}
-use Rattle.std.specs.Char.{IsAsciiDigit}
-use Rattle.std.specs.List.{AllByRecursion}
-use Rattle.gentime.specs.Fraction.{worth, micros_of}
+use Rattle.std.proofs.lemmas.{Bool.cond_both, Bool.eqb-true, Nat.mul-le}
+use Rattle.std.specs.{Char.IsAsciiDigit, List.AllByRecursion}
+use Rattle.gentime.specs.{auxiliary.Fraction.worth, auxiliary.Fraction.micros_of, GenTime.IsFraction}
 use Rattle.gentime.specs.GenTime.{digit, two_digits, digit_before, without_trailing_zeros, six_digits, fraction_of}
-use Rattle.gentime.specs.GenTime.{IsFraction}
 
 worth-digit_before : (unit octet : ℕ) (octets : List ℕ)
     → worth unit (digit_before octet octets) ≡ worth unit (octet ∷ octets)

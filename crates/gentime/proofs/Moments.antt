@@ -1,13 +1,10 @@
 -- A moment and the parts of its time name each other.
 use Rattle.std.proofs.Common.{◌≡◌, ℕ, ◌+◌, ◌*◌, ◌/◌, ◌%◌, ◌<◌, ◌≤◌, List, refl, sym, ap, ◌∙◌, arith, pos}
-use Rattle.gentime.specs.Calendar.{CivilDate, civil_date}
-use Rattle.gentime.specs.Fraction.{micros_of}
+use Rattle.gentime.specs.{Calendar.CivilDate, Calendar.civil_date, auxiliary.Fraction.micros_of}
 use Rattle.gentime.specs.GenTime.{last_moment, round_down, GeneralizedTime, HasParts, IsTime, IsCounted, HasForm}
 use Rattle.gentime.specs.GenTime.{spelling, time_of, text_of}
-use Rattle.gentime.proofs.Days.{civil_date_is}
+use Rattle.gentime.proofs.{Days.civil_date_is, Pairs.stated_once, Texts.time_of_formed, Texts.length-fraction_of_time}
 use Rattle.gentime.proofs.Fractions.{micros_of-fraction_of, micros_of_bound, fraction_of-micros_of}
-use Rattle.gentime.proofs.Pairs.{stated_once}
-use Rattle.gentime.proofs.Texts.{time_of_formed, length-fraction_of_time}
 use Rattle.jiff_core.specs.Calendar.{day_count}
 
 -- the moment with that day, second of the day and microsecond

@@ -1,14 +1,11 @@
 -- What is read from the front of a text is what it states, and nothing else is.
 use Rattle.std.proofs.Common.{◌≡◌, ℕ, zero, suc, ◌-◌, ◌+◌, ◌*◌, ◌/◌, ◌%◌, ◌<◌, ◌≤◌, ◌&&◌, true, cond, List, [], ◌∷◌}
 use Rattle.std.proofs.Common.{◌++◌, length, get_or, Option, Some, None, refl, sym, ap, ◌∙◌, subst, arith}
-use Rattle.std.proofs.lemmas.Bool.Decides.{nat_tests}
+use Rattle.std.proofs.lemmas.{Bool.Decides.nat_tests, List.append_cancel_right}
 use Rattle.std.proofs.lemmas.Option.{option_and_then_some, cond_some, same_Some, some_pair_parts, none-some}
-use Rattle.std.proofs.lemmas.List.{append_cancel_right}
-use Rattle.std.specs.Char.{is_ascii_digit}
-use Rattle.std.specs.List.{AllByRecursion, flat_map}
+use Rattle.std.specs.{Char.is_ascii_digit, List.AllByRecursion, List.flat_map}
 use Rattle.gentime.specs.GenTime.{GeneralizedTime, digit, two_digits, point_and, pairs_of, spelling, IsFraction}
-use Rattle.gentime.specs.GenTime.{HasForm}
-use Rattle.gentime.specs.Pairs.{pair_at, pairs_at}
+use Rattle.gentime.specs.{GenTime.HasForm, auxiliary.Pairs.pair_at, auxiliary.Pairs.pairs_at}
 
 abbrev IsPair : ℕ → Type 0
 IsPair n = n < 100

@@ -1,8 +1,7 @@
 -- The definitions, computed on moments: 1970-01-01, the standards' example, one that is rounded down, and the days
 -- around the end of February.
 use Rattle.std.proofs.Common.{◌≡◌, codes, refl}
-use Rattle.gentime.specs.Calendar.{civil_date}
-use Rattle.gentime.specs.GenTime.{spelling, time_of, text_of}
+use Rattle.gentime.specs.{Calendar.civil_date, GenTime.spelling, GenTime.time_of, GenTime.text_of}
 
 first : text_of 0 0 ≡ codes "19700101000000Z"
 unfolding text_of spelling time_of civil_date

@@ -1,15 +1,11 @@
 -- The digits of a fraction without the zeros at its end, and what every text has.
 use Rattle.std.proofs.Common.{◌≡◌, ◌≢◌, ℕ, ◌-◌, ◌/◌, ◌%◌, eqb, pos, length-append, ◌+◌, ◌<◌, ◌≤◌, List, [], ◌∷◌, ◌++◌}
 use Rattle.std.proofs.Common.{length, get_or, take, refl, sym, ap, ◌∙◌, arith}
-use Rattle.std.proofs.lemmas.Bool.{ne_eqb, cond_both}
-use Rattle.std.proofs.lemmas.Bool.Decides.{nat_tests}
-use Rattle.std.proofs.lemmas.List.{take_more}
-use Rattle.std.specs.Char.{IsAsciiDigit}
-use Rattle.std.specs.List.{AllByRecursion}
-use Rattle.gentime.specs.Calendar.{civil_date}
+use Rattle.std.proofs.lemmas.{Bool.ne_eqb, Bool.cond_both, Bool.Decides.nat_tests, List.take_more}
+use Rattle.std.specs.{Char.IsAsciiDigit, List.AllByRecursion}
+use Rattle.gentime.{specs.Calendar.civil_date, proofs.Days.civil_date_is, proofs.Days.civil_date_year}
 use Rattle.gentime.specs.GenTime.{last_moment, round_down, GeneralizedTime, digit_before, point_and}
 use Rattle.gentime.specs.GenTime.{without_trailing_zeros, six_digits, fraction_of, HasParts, spelling, time_of, text_of}
-use Rattle.gentime.proofs.Days.{civil_date_is, civil_date_year}
 use Rattle.jiff_core.proofs.CalendarLemmas.{days_in_month_bounds}
 
 pub without_trailing_zeros-zero : (xs : List ℕ) → without_trailing_zeros (xs ++ 48 ∷ []) ≡ without_trailing_zeros xs

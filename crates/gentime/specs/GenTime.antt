@@ -1,8 +1,6 @@
 -- Moments, and the genTime of a time-stamp (RFC 3161 2.4.2): a GeneralizedTime in DER (X.690 11.7).
 use Rattle.std.specs.Prelude.{◌≡◌, ℕ, ◌<◌, ◌≤◌, ◌+◌, ◌-◌, ◌*◌, ◌/◌, ◌%◌, ◌^◌, ◌==◌, List, [], ◌∷◌, ◌++◌, length}
-use Rattle.std.specs.Prelude.{if◌then◌else◌}
-use Rattle.std.specs.Char.{IsAsciiDigit}
-use Rattle.std.specs.List.{flat_map, AllByRecursion}
+use Rattle.std.specs.{Prelude.if◌then◌else◌, Char.IsAsciiDigit, List.flat_map, List.AllByRecursion}
 use Rattle.gentime.specs.Calendar.{IsDate, civil_date}
 
 -- 9999-12-31T23:59:59.999999Z, in microseconds since 1970-01-01T00:00:00Z without leap seconds

@@ -20,7 +20,7 @@ pub(crate) struct Components<'a> {
 }
 
 impl<'a> Components<'a> {
-    ghost use Rattle.gentime.specs.Components.{plain};
+    ghost use Rattle.gentime.specs.auxiliary.Components.{plain};
 
     /// The parts of a moment, given in microseconds since 1970, with the digits of its fraction.
     pub(crate) fn of(moment: u64, fraction: &'a [u8]) -> Components<'a>

@@ -1,20 +1,17 @@
 //! The parts that octets state (X.690 11.7), whether or not the calendar has them.
 
 ghost use Rattle.std.specs.Prelude.{◌≡◌, ◌↔◌, ◌<◌, ◌≤◌, ◌≤ℤ◌, pos, IsSome, List, ℕ, [], ◌∷◌, ◌++◌, length, option_map};
-ghost use Rattle.std.specs.Prelude.{IfSome, IsTrue, Some};
-ghost use Rattle.std.specs.Char.{IsAsciiDigit};
-ghost use Rattle.std.specs.List.{All};
-ghost use Rattle.gentime.specs.Fraction.{micros_of};
+ghost use Rattle.std.specs.{Prelude.IfSome, Prelude.IsTrue, Prelude.Some, Char.IsAsciiDigit, List.All};
+ghost use Rattle.gentime.specs.auxiliary.{Fraction.micros_of, Pairs.pair_at, Pairs.pairs_at};
 ghost use Rattle.jiff_core.specs.Date.{epoch_day};
 ghost use Rattle.gentime.specs.GenTime.{point_and, GeneralizedTime, IsFraction, HasParts, HasForm, IsTime, IsCounted};
 ghost use Rattle.gentime.specs.GenTime.{last_moment, time_of};
-ghost use Rattle.gentime.specs.Pairs.{pair_at, pairs_at};
 
 use crate::components::Components;
 use jiff_core::civil::Date;
 
 impl<'a> Components<'a> {
-    ghost use Rattle.gentime.specs.Components.{plain, IsDateOf};
+    ghost use Rattle.gentime.specs.auxiliary.Components.{plain, IsDateOf};
 
     /// The parts that the octets state, where they are a GeneralizedTime in DER.
     pub(crate) fn read(octets: &'a [u8]) -> Option<Components<'a>>
@@ -91,7 +88,7 @@ fn micros_of(digits: &[u8]) -> u32
 }
 
 /// The number of the first two digits, and the octets behind them.
-#[tactic(auto, unfolding(crate::specs::Pairs::pair_at))]
+#[tactic(auto, unfolding(crate::specs::auxiliary::Pairs::pair_at))]
 fn pair(octets: &[u8]) -> Option<(u8, &[u8])>
     ensures { option_map (λ p. (p.0, p.1.now)) result ≡ pair_at octets.now }
 {
@@ -105,7 +102,7 @@ fn pair(octets: &[u8]) -> Option<(u8, &[u8])>
 }
 
 /// The seven numbers of two digits at the front, and the octets behind them.
-#[tactic(auto, unfolding(crate::specs::Pairs::pairs_at))]
+#[tactic(auto, unfolding(crate::specs::auxiliary::Pairs::pairs_at))]
 fn pairs(octets: &[u8]) -> Option<([u8; 7], &[u8])>
     ensures { option_map (λ p. (p.0, p.1.now)) result ≡ pairs_at 7 octets.now }
 {

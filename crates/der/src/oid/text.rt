@@ -1,8 +1,7 @@
 //! The dotted text of object identifiers, and the octets of their subidentifiers.
-ghost use Rattle.std.specs.Prelude.{◌≡◌, Err, ℕ, ◌+◌, ◌-◌, ◌*◌, ◌^◌, ◌<◌, ◌≤◌, ◌⊎◌, List, [], ◌∷◌, ◌++◌, map};
-ghost use Rattle.std.specs.Prelude.{◌↔◌, IfOk, IfErr, OnOk, MatchOption, string_bytes};
-ghost use Rattle.std.specs.List.{flat_map};
-ghost use Rattle.std.specs.Int.Digits.{digits_of};
+ghost use Rattle.std.specs.Prelude.{◌≡◌, Err, ℕ, ◌+◌, ◌-◌, ◌*◌, ◌^◌, ◌<◌, ◌≤◌, ◌⊎◌, List, [], ◌∷◌, ◌++◌, map, ◌↔◌};
+ghost use Rattle.std.specs.Prelude.{IfOk, IfErr, OnOk, MatchOption, string_bytes};
+ghost use Rattle.std.specs.{List.flat_map, Int.Digits.digits_of};
 ghost use Rattle.der.specs.ObjectIdentifier.{decimal, dotted, first_arc, oid_text, oid_content, subidentifier_octets};
 ghost use Rattle.der.specs.ObjectIdentifier.{AreOthers, IsNumberAt, IsDottedNumberAt};
 ghost use Rattle.der.specs.declared.fault.DerFault.TheVariants.{BadValue, Memory};

@@ -1,7 +1,6 @@
 use Rattle.std.proofs.Common.{◌≡◌, subst}
 use Rattle.policy.specs.View.{counter_view}
-use Rattle.decide.specs.Clock.{KeepsAccuracy}
-use Rattle.decide.proofs.Clocks.{keeps_accuracy}
+use Rattle.decide.{specs.Clock.KeepsAccuracy, proofs.Clocks.keeps_accuracy}
 use Rattle.decide.proofs.clock.clock_state.Goals as goal
 
 pub returns-in-Some-clause-interval : goal.returns-in-Some-clause-interval

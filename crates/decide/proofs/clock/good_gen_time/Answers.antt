@@ -1,5 +1,4 @@
-use Rattle.std.proofs.Common.{rules, w64, SFits}
-use Rattle.std.proofs.lemmas.Int.{to_z-of_z}
+use Rattle.std.proofs.{Common.rules, Common.w64, Common.SFits, lemmas.Int.to_z-of_z}
 use Rattle.policy.specs.View.{counter_view}
 use Rattle.decide.proofs.Clocks.{good_at}
 use Rattle.decide.proofs.clock.good_gen_time.Goals as goal

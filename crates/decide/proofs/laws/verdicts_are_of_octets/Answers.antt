@@ -1,9 +1,7 @@
 use Rattle.std.proofs.Common.{◌<◌, arith}
-use Rattle.tsp.specs.Rejection.{number_of}
-use Rattle.tsp.specs.Rules.{HoldsOfOctets}
-use Rattle.tsp.specs.RulesOfOctets.{to_octets, first_of_octets}
-use Rattle.tsp.specs.declared.rule.Rule.{Rule}
-use Rattle.tsp.specs.declared.rule.Rule.TheVariants.{Spelling}
+use Rattle.tsp.specs.{Rejection.number_of, Rules.HoldsOfOctets}
+use Rattle.tsp.specs.auxiliary.RulesOfOctets.{to_octets, first_of_octets}
+use Rattle.tsp.specs.declared.rule.Rule.{Rule, TheVariants.Spelling}
 use Rattle.decide.specs.Rules.{HoldsOf, Holds}
 use Rattle.decide.proofs.laws.verdicts_are_of_octets.Goals as goal
 

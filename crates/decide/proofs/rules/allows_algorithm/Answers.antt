@@ -1,11 +1,7 @@
-use Rattle.std.proofs.Common.{◌≡◌}
-use Rattle.std.proofs.lemmas.Bool.Decides.{Decides-at}
-use Rattle.policy.specs.Record.{TsaPolicyValue}
+use Rattle.std.{proofs.Common.◌≡◌, proofs.lemmas.Bool.Decides.Decides-at, specs.Prelude.Contains, specs.Prelude.map}
+use Rattle.policy.specs.{Record.TsaPolicyValue, View.algorithm_view}
+use Rattle.decide.{specs.auxiliary.Tests.lists_algorithm, proofs.Sentences.asked_any, proofs.Sentences.decides_lists}
 use Rattle.policy.specs.Record as record_of
-use Rattle.std.specs.Prelude.{Contains, map}
-use Rattle.policy.specs.View.{algorithm_view}
-use Rattle.decide.specs.Tests.{lists_algorithm}
-use Rattle.decide.proofs.Sentences.{asked_any, decides_lists}
 use Rattle.decide.proofs.rules.allows_algorithm.Goals as goal
 
 pub returns : goal.returns

@@ -1,5 +1,4 @@
-use Rattle.std.proofs.Common.{◌≡◌, true}
-use Rattle.std.proofs.lemmas.Bool.Decides.{Decides-at}
+use Rattle.std.proofs.{Common.◌≡◌, Common.true, lemmas.Bool.Decides.Decides-at}
 use Rattle.policy.specs.Record.{TsaPolicyValue}
 use Rattle.decide.proofs.Sentences.{asked_any, wanted_given}
 use Rattle.decide.proofs.rules.gives_certificate.Goals as goal

@@ -1,5 +1,4 @@
-use Rattle.std.proofs.Common.{length}
-use Rattle.std.proofs.lemmas.Bool.Decides.{Decides-at}
+use Rattle.std.proofs.{Common.length, lemmas.Bool.Decides.Decides-at}
 use Rattle.decide.proofs.Sentences.{algorithm_length}
 use Rattle.decide.proofs.rules.has_algorithm_length.Goals as goal
 

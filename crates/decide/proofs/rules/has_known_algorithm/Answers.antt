@@ -1,5 +1,4 @@
-use Rattle.std.proofs.Common.{sym, ◌∙◌}
-use Rattle.std.specs.Str.{bytes_eq}
+use Rattle.std.{proofs.Common.sym, proofs.Common.◌∙◌, specs.Str.bytes_eq}
 use Rattle.der.specs.ObjectIdentifier.{oid_content}
 use Rattle.policy.specs.View.{algorithm_view, policy_view}
 use Rattle.decide.proofs.Sentences.{algorithm_known, look_up_tells}

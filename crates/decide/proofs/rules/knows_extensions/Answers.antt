@@ -1,8 +1,7 @@
 use Rattle.std.proofs.Common.{rules, tests}
-use Rattle.std.proofs.lemmas.Iterator.Consumers.{YieldsList-from_first}
-use Rattle.std.proofs.lemmas.Iterator.Search.{all_from_yields_List}
+use Rattle.std.proofs.lemmas.Iterator.{Consumers.YieldsList-from_first, Search.all_from_yields_List}
 use Rattle.tsp.specs.View.{extension_view}
-use Rattle.decide.specs.Tests.{knows_extension}
+use Rattle.decide.specs.auxiliary.Tests.{knows_extension}
 use Rattle.decide.proofs.rules.knows_extensions.Goals as goal
 
 pub returns : goal.returns

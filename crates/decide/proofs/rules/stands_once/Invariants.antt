@@ -1,5 +1,5 @@
 use Rattle.std.proofs.Common.{◌≡◌, false}
-use Rattle.decide.specs.Tests.{stands_once}
+use Rattle.decide.specs.auxiliary.Tests.{stands_once}
 use Rattle.decide.proofs.rules.stands_once.Given as goal
 
 -- those left stand once where all do

@@ -1,8 +1,6 @@
 use Rattle.std.proofs.Common.{length, ap, subst, ◌∙◌}
-use Rattle.der.specs.Node.{element, length_octets, AreOctets}
-use Rattle.der.specs.Piece.{piece_view}
-use Rattle.der.proofs.Octets.{AreOctets-at, AreOctets-parts}
-use Rattle.der.proofs.ReadingElements.{element_at_reads}
+use Rattle.der.specs.{Node.element, Node.length_octets, Node.AreOctets, auxiliary.Piece.piece_view}
+use Rattle.der.proofs.{Octets.AreOctets-at, Octets.AreOctets-parts, ReadingElements.element_at_reads}
 use Rattle.der.proofs.Elements.{front_taken, element_found, element_not_refused}
 use Rattle.der.proofs.cursor.element_at_front.Goals as goal
 

@@ -1,5 +1,4 @@
-use Rattle.std.proofs.Common.{◌-◌, rules}
-use Rattle.std.proofs.lemmas.List.Edits.{map_over_more}
+use Rattle.std.proofs.{Common.◌-◌, Common.rules, lemmas.List.Edits.map_over_more}
 use Rattle.der.proofs.number.invert.Goals as goal
 
 pub loop-octet-preserved : goal.loop-octet-preserved

@@ -1,6 +1,5 @@
 use Rattle.std.proofs.Common.{◌≡◌, rules, true, false, nat_lt, nat_le, slice_index_or}
-use Rattle.der.specs.Number.{is_shortest}
-use Rattle.der.proofs.NumberContents.{is_shortest_decides}
+use Rattle.der.{specs.Number.is_shortest, proofs.NumberContents.is_shortest_decides}
 use Rattle.der.proofs.number.is_number_content.Goals as goal
 
 pub returns-in-empty-clause-content : goal.returns-in-empty-clause-content

@@ -1,5 +1,4 @@
-use Rattle.std.proofs.Common.{◌≡◌, rules, to_z, of_z}
-use Rattle.std.specs.Int.{w128}
+use Rattle.std.{proofs.Common.◌≡◌, proofs.Common.rules, proofs.Common.to_z, proofs.Common.of_z, specs.Int.w128}
 use Rattle.der.proofs.NumberContents.{content_not_negative, content_negative, IsNumberContent-from}
 use Rattle.der.proofs.number.whole_number_content.Goals as goal
 

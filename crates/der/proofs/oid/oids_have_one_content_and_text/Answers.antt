@@ -1,7 +1,6 @@
 use Rattle.der.proofs.OidContents.{subidentifiers_of-content, octets-oid_content, some-oid_content, length-oid_content}
 use Rattle.der.proofs.OidContents.{same_from_content, oid_of-content, oid_of-some}
-use Rattle.der.proofs.OidTexts.{same_from_text}
-use Rattle.der.proofs.OidOfTexts.{oid_of_text-written, oid_of_text-some}
+use Rattle.der.proofs.{OidTexts.same_from_text, OidOfTexts.oid_of_text-written, OidOfTexts.oid_of_text-some}
 use Rattle.der.proofs.oid.oids_have_one_content_and_text.Goals as goal
 
 pub returns : goal.returns

@@ -1,12 +1,8 @@
 use Rattle.std.proofs.Common.{◌≡◌, ◌<◌, ◌+◌, ◌-◌, ◌==◌, true, false, Ok, length, map, [], ◌∷◌, ◌++◌, rules, arith, sym}
 use Rattle.std.proofs.Common.{ap, ◌∙◌}
-use Rattle.std.proofs.lemmas.Result.{err_from_is_err_and}
-use Rattle.std.proofs.lemmas.Grind.{common_steps}
-use Rattle.std.proofs.lemmas.List.{map-append, length-append}
+use Rattle.std.proofs.lemmas.{Result.err_from_is_err_and, Grind.common_steps, List.map-append, List.length-append}
 use Rattle.der.specs.Node.{bit_six, primitive, constructed}
-use Rattle.der.specs.Piece.{piece_view}
-use Rattle.der.specs.Tree.{view, nodes}
-use Rattle.der.specs.FirstFault.{node_at}
+use Rattle.der.specs.{auxiliary.Piece.piece_view, Tree.view, Tree.nodes, FirstFault.node_at}
 use Rattle.der.specs.declared.tree.Tree.{Primitive, Constructed, the_lemmas}
 use Rattle.der.proofs.ReadingRuns.{nodes_with_more, nodes_with_end, nodes_with_fails, node_at_none, node_at_fails}
 use Rattle.der.proofs.ReadingRuns.{node_at_inner_fails, node_at_constructed, node_at_primitive}

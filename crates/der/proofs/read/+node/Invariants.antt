@@ -1,7 +1,5 @@
 use Rattle.std.proofs.Common.{◌≡◌, ◌≤◌, ◌+◌, ◌-◌, ◌*◌, length, map}
-use Rattle.der.specs.Tree.{view}
-use Rattle.der.specs.FirstFault.{node_at, nodes_with}
-use Rattle.der.proofs.ReadingRuns.{after_found}
+use Rattle.der.{specs.Tree.view, specs.FirstFault.node_at, specs.FirstFault.nodes_with, proofs.ReadingRuns.after_found}
 use Rattle.der.proofs.read.+node.Given as goal
 
 abbrev pub decreases-read_node : goal.decreases-read_node

@@ -1,6 +1,5 @@
-use Rattle.std.proofs.Common.{◌≡◌, ◌<◌, ◌≤◌, ◌+◌, ◌-◌, ◌∙◌, List, [], ◌∷◌, ℕ, length, get_or, take, drop, refl}
-use Rattle.std.proofs.Common.{arith, length-take, length-drop}
-use Rattle.std.proofs.lemmas.Grind.{common_steps}
+use Rattle.std.proofs.Common.{◌≡◌, ◌<◌, ◌≤◌, ◌+◌, ◌-◌, ◌∙◌, List, [], ◌∷◌, ℕ, length, get_or, take, drop, refl, arith}
+use Rattle.std.proofs.{Common.length-take, Common.length-drop, lemmas.Grind.common_steps}
 use Rattle.der.proofs.DigitsElements.{all-from_places}
 use Rattle.der.proofs.ReadingLengths.{long_length_zero, long_length_small, long_length_written, long_length_four}
 use Rattle.der.proofs.ReadingLengths.{number_of_one, number_of_two, number_of_three}

@@ -1,9 +1,6 @@
 use Rattle.std.proofs.Common.{◌≡◌, ◌<◌, length, arith, sym, ap, ◌∙◌}
 use Rattle.std.proofs.lemmas.Result.{err_from_is_err_and}
-use Rattle.der.specs.Tree.{view}
-use Rattle.der.specs.FirstFault.{tree_of}
-use Rattle.der.proofs.Octets.{AreOctets-at}
-use Rattle.der.proofs.ReadingSteps.{ok_is}
+use Rattle.der.{specs.Tree.view, specs.FirstFault.tree_of, proofs.Octets.AreOctets-at, proofs.ReadingSteps.ok_is}
 use Rattle.der.proofs.ReadingNodes.{tree_of-encoding, tree_of_reads}
 use Rattle.der.proofs.ReadingTree.{tree_of_alone, tree_of_more, tree_of_fails, refused_lawful}
 use Rattle.der.proofs.read.read_tree.Goals as goal

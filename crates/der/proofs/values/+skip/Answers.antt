@@ -1,9 +1,6 @@
-use Rattle.std.proofs.Common.{◌≡◌, ◌<◌, ◌==◌, true, false, length, rules, arith, sym, ap, ◌∙◌, refl}
+use Rattle.std.proofs.Common.{◌≡◌, ◌<◌, ◌==◌, true, false, length, rules, arith, sym, ap, ◌∙◌}
 use Rattle.std.proofs.lemmas.Result.{err_from_is_err_and}
-use Rattle.der.specs.Node.{bit_six}
-use Rattle.der.specs.Piece.{piece_view}
-use Rattle.der.specs.FirstFault.{values_at}
-use Rattle.der.proofs.Octets.{AreOctets-at}
+use Rattle.der.specs.{Node.bit_six, FirstFault.values_at, auxiliary.Piece.piece_view}
 use Rattle.der.proofs.ReadingRuns.{node_at_none, node_at_refused}
 use Rattle.der.proofs.ValuesRead.{forget, forget_ok, forget_err, values_follow, values_fail, values_end, inner_fails}
 use Rattle.der.proofs.ValuesRead.{inner_found, outer_found}
@@ -70,10 +67,3 @@ skip_values-returns t c =
     let none : length l.rest.now ≡ 0 = grind arith in
     forget_ok (values_at c.args.levels c.args.octets.now)
     (sym l.invariant.same ∙ ap forget (values_end c.args.levels l.rest.now none))
-
-pub skip_values-loop-rest-init : goal.skip_values-loop-rest-init
-skip_values-loop-rest-init t c = record {
-  same = refl;
-  bytes =
-      AreOctets-at c.args.octets.now (λ i. (c.type_inv.octets i).fits);
-}

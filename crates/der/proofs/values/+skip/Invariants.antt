@@ -1,7 +1,5 @@
 use Rattle.std.proofs.Common.{◌≡◌, ◌+◌, ◌*◌, length}
-use Rattle.der.specs.Node.{AreOctets}
-use Rattle.der.specs.FirstFault.{values_at}
-use Rattle.der.proofs.ValuesRead.{forget}
+use Rattle.der.{specs.Node.AreOctets, specs.FirstFault.values_at, proofs.ValuesRead.forget}
 use Rattle.der.proofs.values.+skip.Given as goal
 
 abbrev pub decreases-skip_values : goal.decreases-skip_values

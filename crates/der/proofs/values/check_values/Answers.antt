@@ -1,5 +1,4 @@
-use Rattle.der.proofs.Octets.{AreOctets-at}
-use Rattle.der.proofs.ValuesRead.{says_whether}
+use Rattle.der.proofs.{Octets.AreOctets-at, ValuesRead.says_whether}
 use Rattle.der.proofs.values.check_values.Goals as goal
 
 pub returns-clause-found : goal.returns-clause-found

@@ -1,13 +1,9 @@
 use Rattle.std.proofs.Common.{◌≡◌, ◌<◌, length, arith, sym, ap, ◌∙◌}
 use Rattle.std.proofs.lemmas.Result.{err_from_is_err_and}
-use Rattle.der.specs.Node.{Node}
-use Rattle.der.specs.FirstFault.{tree_of}
-use Rattle.der.proofs.Octets.{AreOctets-at}
-use Rattle.der.proofs.ReadingSteps.{ok_is}
-use Rattle.der.proofs.ReadingNodes.{tree_of-encoding}
-use Rattle.der.proofs.ReadingRuns.{node_at_refused}
+use Rattle.der.specs.{Node.Node, FirstFault.tree_of}
+use Rattle.der.proofs.{Octets.AreOctets-at, ReadingSteps.ok_is, ReadingNodes.tree_of-encoding}
+use Rattle.der.proofs.{ReadingRuns.node_at_refused, ValuesTaken.reads_alone}
 use Rattle.der.proofs.ReadingTree.{tree_of_alone, tree_of_more, tree_of_no_node, refused}
-use Rattle.der.proofs.ValuesTaken.{reads_alone}
 use Rattle.der.proofs.values.read_value.Goals as goal
 
 pub returns-in_err-rest-clause-only : goal.returns-in_err-rest-clause-only

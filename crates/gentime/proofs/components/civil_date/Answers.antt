@@ -1,5 +1,4 @@
-use Rattle.std.proofs.Common.{arith, w64, ◌∙◌}
-use Rattle.std.proofs.lemmas.Int.{to_z_pos}
+use Rattle.std.proofs.{Common.arith, Common.w64, Common.◌∙◌, lemmas.Int.to_z_pos}
 use Rattle.gentime.proofs.Days.{civil_date_of, civil_date_year}
 use Rattle.gentime.proofs.components.civil_date.Goals as goal
 

@@ -1,5 +1,4 @@
-use Rattle.gentime.proofs.Moments.{same_text}
-use Rattle.gentime.proofs.Pairs.{stated_once}
+use Rattle.gentime.proofs.{Moments.same_text, Pairs.stated_once}
 use Rattle.gentime.proofs.laws.texts_are_distinct.Goals as goal
 
 pub returns : goal.returns

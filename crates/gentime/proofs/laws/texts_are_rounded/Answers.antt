@@ -1,5 +1,4 @@
-use Rattle.gentime.proofs.Moments.{text_of_rounded}
-use Rattle.gentime.proofs.Texts.{round_down_bound}
+use Rattle.gentime.proofs.{Moments.text_of_rounded, Texts.round_down_bound}
 use Rattle.gentime.proofs.laws.texts_are_rounded.Goals as goal
 
 pub returns : goal.returns

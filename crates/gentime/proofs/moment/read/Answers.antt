@@ -1,6 +1,5 @@
 use Rattle.std.proofs.Common.{Ok, ap, ◌∙◌, arith}
-use Rattle.std.proofs.lemmas.Grind.{common_steps}
-use Rattle.std.proofs.lemmas.Option.{same_Some}
+use Rattle.std.proofs.lemmas.{Grind.common_steps, Option.same_Some}
 use Rattle.gentime.specs.GenTime.{time_of}
 use Rattle.gentime.proofs.Moments.{same_moment, states_time_of, text_from_time, time_of_exists, time_of_counted}
 use Rattle.gentime.proofs.moment.read.Goals as goal

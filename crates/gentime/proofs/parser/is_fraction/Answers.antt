@@ -1,7 +1,5 @@
-use Rattle.std.proofs.Common.{arith}
-use Rattle.std.proofs.lemmas.Bool.Decides.{nat_tests}
+use Rattle.std.{proofs.Common.arith, proofs.lemmas.Bool.Decides.nat_tests, specs.Char.IsAsciiDigit}
 use Rattle.std.proofs.lemmas.List.Elements.{recursion_from_All, All-from_recursion}
-use Rattle.std.specs.Char.{IsAsciiDigit}
 use Rattle.gentime.proofs.Texts.{ends_in_no_zero, ends_in_zero}
 use Rattle.gentime.proofs.parser.is_fraction.Goals as goal
 

@@ -1,6 +1,4 @@
-use Rattle.std.proofs.Common.{arith}
-use Rattle.std.proofs.lemmas.List.Elements.{recursion_from_All}
-use Rattle.std.specs.Char.{IsAsciiDigit}
+use Rattle.std.{proofs.Common.arith, proofs.lemmas.List.Elements.recursion_from_All, specs.Char.IsAsciiDigit}
 use Rattle.gentime.proofs.Fractions.{micros_of_bound, worth-drop}
 use Rattle.gentime.proofs.parser.micros_of.Goals as goal
 

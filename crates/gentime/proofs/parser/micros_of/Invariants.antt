@@ -1,5 +1,5 @@
 use Rattle.std.proofs.Common.{◌≡◌, ◌+◌, ◌≤◌, drop}
-use Rattle.gentime.specs.Fraction.{worth, micros_of}
+use Rattle.gentime.specs.auxiliary.Fraction.{worth, micros_of}
 use Rattle.gentime.proofs.parser.micros_of.Given as goal
 
 abbrev pub invariant-loop-digit : goal.invariant-loop-digit

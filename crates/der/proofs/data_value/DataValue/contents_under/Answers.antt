@@ -1,8 +1,5 @@
-use Rattle.std.proofs.Common.{sym}
-use Rattle.std.proofs.lemmas.Bool.{eqb-true, eqb-false}
-use Rattle.der.specs.Node.{bit_six}
-use Rattle.der.specs.DataValue.{value_in}
-use Rattle.der.proofs.Elements.{not_equal, equal_where}
+use Rattle.std.proofs.{Common.sym, lemmas.Bool.eqb-true, lemmas.Bool.eqb-false}
+use Rattle.der.{specs.Node.bit_six, specs.DataValue.value_in, proofs.Elements.not_equal, proofs.Elements.equal_where}
 use Rattle.der.proofs.ValuesTaken.{parts_of_value, contents_found, contents_other, contents_inside}
 use Rattle.der.proofs.data_value.DataValue.contents_under.Goals as goal
 

@@ -1,5 +1,4 @@
-use Rattle.der.proofs.ValuesTaken.{parts_of_value, identifier_is}
-use Rattle.der.specs.DataValue.{value_in}
+use Rattle.der.{proofs.ValuesTaken.parts_of_value, proofs.ValuesTaken.identifier_is, specs.DataValue.value_in}
 use Rattle.der.proofs.data_value.DataValue.tag.Goals as goal
 
 pub returns : goal.returns

@@ -1,7 +1,6 @@
 use Rattle.std.proofs.Common.{Some, sym, ap, ◌∙◌}
 use Rattle.der.specs.DataValue.{are_values, value_in, values_in}
-use Rattle.der.proofs.Elements.{rest_dropped}
-use Rattle.der.proofs.ValuesTaken.{next_none, next_found}
+use Rattle.der.proofs.{Elements.rest_dropped, ValuesTaken.next_none, ValuesTaken.next_found}
 use Rattle.der.proofs.data_value.DataValues.next.Goals as goal
 
 pub returns-in_default-clause-first : goal.returns-in_default-clause-first

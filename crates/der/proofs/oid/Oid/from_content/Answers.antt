@@ -1,12 +1,6 @@
 use Rattle.std.proofs.Common.{◌∙◌, refl, sym}
-use Rattle.std.proofs.lemmas.Bool.{false≢true}
 use Rattle.der.proofs.OidContents.{ReadsAsOid-written, subidentifiers_of-written}
 use Rattle.der.proofs.oid.Oid.from_content.Goals as goal
-
-pub returns-then-not-is_oid_content-clause-only : goal.returns-then-not-is_oid_content-clause-only
-returns-then-not-is_oid_content-clause-only c subidentifiers oid written =
-    absurd (false≢true (c.if-not-is_oid_content.ensures.content.1
-    (record { subidentifiers = subidentifiers; oid = oid; encoded = written })))
 
 pub invariant_of-result : goal.invariant_of-result
 invariant_of-result c =

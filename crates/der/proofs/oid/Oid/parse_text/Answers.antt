@@ -1,7 +1,6 @@
 use Rattle.std.proofs.Common.{◌≡◌, ℕ, List, Result, Err, ap, refl, ◌∙◌, ⊎_elim}
 use Rattle.std.proofs.lemmas.Result.{err_from_is_err_and}
-use Rattle.der.specs.ObjectIdentifier.{IsOid, oid_text}
-use Rattle.der.specs.declared.fault.DerFault.{DerFault}
+use Rattle.der.specs.{ObjectIdentifier.IsOid, ObjectIdentifier.oid_text, declared.fault.DerFault.DerFault}
 use Rattle.der.proofs.OidTexts.{has_first, has_second, has_arcs, has_others, IsMade, made_of, ReadsAsOid-made}
 use Rattle.der.proofs.OidTexts.{made-found, made-only}
 use Rattle.der.proofs.OidOfTexts.{oid_of_text-other, none-not_text, none-no_others}

@@ -1,11 +1,9 @@
-use Rattle.std.proofs.Common.{◌≡◌, ◌+◌, ◌*◌, ◌<◌, length, refl, sym, subst, ap, ◌∙◌, string_bytes, arith}
-use Rattle.std.specs.String.{string_len}
-use Rattle.std.proofs.lemmas.Bool.{eqb-true, eqb-false}
-use Rattle.der.specs.ObjectIdentifier.{ReadsAsOid, oid_text, subidentifiers_of}
-use Rattle.der.proofs.OidTextLoops.{written_none, written_first, written_other, written_as}
-use Rattle.der.proofs.OidTextLoops.{written_small, written_more, written_all}
-use Rattle.der.proofs.oid.Oid.text.Goals as goal
+use Rattle.std.proofs.Common.{◌≡◌, ◌+◌, ◌*◌, ◌<◌, length, refl, sym, subst, ap, string_bytes, arith}
+use Rattle.std.{specs.String.string_len, proofs.lemmas.Bool.eqb-true, proofs.lemmas.Bool.eqb-false}
+use Rattle.der.specs.ObjectIdentifier.{ReadsAsOid}
+use Rattle.der.proofs.OidTextLoops.{written_none, written_first, written_other, written_as, written_more}
 use Rattle.der.proofs.oid.Oid.text.Goals.{then-is_empty+in_ok-push_first_arcs, else-is_empty+in_ok-push_dotted}
+use Rattle.der.proofs.oid.Oid.text.Goals as goal
 
 pub loop-octet-init : goal.loop-octet-init
 loop-octet-init c =
@@ -39,39 +37,7 @@ loop-octet-preserved c =
           some w.in_ok-push_dotted.ensures)
     ]
 
-pub overflow_mul-subidentifier : goal.overflow_mul-subidentifier
-overflow_mul-subidentifier c =
-    omega (arith, written_small _ _ _ _ _ c.loop-octet-test.true refl c.loop-octet.invariant)
-
-pub overflow_add-subidentifier : goal.overflow_add-subidentifier
-overflow_add-subidentifier c =
-    omega (
-      arith,
-      written_small _ _ _ _ _ c.loop-octet-test.true refl c.loop-octet.invariant,
-      c.from.ensures,
-      c.if-octet-ge128.true,
-      c.type_inv.octet-items c.loop-octet.octet-index,
-    )
-
 pub loop-octet-preserved-then-octet-ge128 : goal.loop-octet-preserved-then-octet-ge128
 loop-octet-preserved-then-octet-ge128 c =
     written_as _ _ _ _ _ _ refl (ap (λ bits. c.loop-octet.subidentifier * 128 + bits) c.from.ensures)
     (written_more _ _ _ _ _ c.loop-octet-test.true refl c.loop-octet.invariant c.if-octet-ge128.true)
-
-pub overflow_mul-subidentifier-in-loop-octet : goal.overflow_mul-subidentifier-in-loop-octet
-overflow_mul-subidentifier-in-loop-octet c =
-    omega (arith, written_small _ _ _ _ _ c.loop-octet-test.true refl c.loop-octet.invariant)
-
-pub overflow_add-subidentifier-in-loop-octet : goal.overflow_add-subidentifier-in-loop-octet
-overflow_add-subidentifier-in-loop-octet c =
-    omega (
-      arith,
-      written_small _ _ _ _ _ c.loop-octet-test.true refl c.loop-octet.invariant,
-      c.from-in-loop-octet.ensures,
-      c.if-octet-ge128.false,
-    )
-
-pub returns-clause-written : goal.returns-clause-written
-returns-clause-written c =
-    written_all _ _ _ _ c.loop-octet-test.false c.loop-octet.invariant
-    ∙ ap oid_text (ap subidentifiers_of c.deref-octet-items.ensures.value ∙ c.self.view_is)

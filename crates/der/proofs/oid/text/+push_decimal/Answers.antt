@@ -1,10 +1,7 @@
-use Rattle.std.proofs.Common.{[], ap, ◌∙◌, string_bytes}
-use Rattle.std.proofs.lemmas.List.{append-nil}
-use Rattle.std.proofs.Common.{sym}
-use Rattle.der.proofs.OidNumbers.{decimal-step, decimal-last}
-use Rattle.der.proofs.OidTexts.{decimal_pushed}
-use Rattle.der.proofs.oid.text.+push_decimal.Goals as goal
+use Rattle.std.proofs.{Common.[], Common.ap, Common.◌∙◌, Common.string_bytes, Common.sym, lemmas.List.append-nil}
+use Rattle.der.proofs.{OidNumbers.decimal-step, OidNumbers.decimal-last, OidTexts.decimal_pushed}
 use Rattle.der.proofs.oid.text.+push_decimal.Goals.{then-number-ge10+in_ok-push_decimal, else-number-ge10}
+use Rattle.der.proofs.oid.text.+push_decimal.Goals as goal
 
 pub returns : goal.returns
 returns t c =

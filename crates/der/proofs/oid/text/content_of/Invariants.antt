@@ -1,5 +1,4 @@
-use Rattle.der.specs.ObjectIdentifier.{subidentifier_octets}
-use Rattle.der.proofs.OidTextLoops.{IsPushed}
+use Rattle.der.{specs.ObjectIdentifier.subidentifier_octets, proofs.OidTextLoops.IsPushed}
 use Rattle.der.proofs.oid.text.content_of.Given as goal
 
 abbrev pub invariant-loop-rest : goal.invariant-loop-rest

@@ -1,13 +1,8 @@
 use Rattle.std.proofs.Common.{length, sym, refl, subst, arith}
-use Rattle.std.proofs.lemmas.Bool.{eqb-true, eqb-false}
-use Rattle.std.proofs.lemmas.List.{take_rest}
-use Rattle.der.specs.ObjectIdentifier.{IsNumberAt}
-use Rattle.der.proofs.OidNumbers.{number_none, number_found, number_missing, number_padded, number_large, number_to_end}
-use Rattle.der.proofs.OidNumbers.{no_text, no_number}
+use Rattle.std.proofs.lemmas.{Bool.eqb-true, Bool.eqb-false, List.take_rest}
+use Rattle.der.{specs.ObjectIdentifier.IsNumberAt, proofs.OidNumbers.no_number}
+use Rattle.der.proofs.OidNumbers.{number_found, number_missing, number_padded, number_large, number_to_end, no_text}
 use Rattle.der.proofs.oid.text.number_at.Goals as goal
-
-pub loop-index-init : goal.loop-index-init
-loop-index-init c = number_none c.args.text.now
 
 pub returns-then-index-gt0 : goal.returns-then-index-gt0
 returns-then-index-gt0 c =

@@ -1,9 +1,6 @@
 use Rattle.std.proofs.Common.{◌≡◌, sym, ◌∙◌, arith}
-use Rattle.gentime.specs.Calendar.{civil_date}
-use Rattle.gentime.specs.Components.{plain}
-use Rattle.gentime.specs.Fraction.{micros_of}
-use Rattle.gentime.proofs.Days.{civil_date_of}
-use Rattle.gentime.proofs.Fractions.{micros_of_bound}
+use Rattle.gentime.specs.{Calendar.civil_date, auxiliary.Components.plain, auxiliary.Fraction.micros_of}
+use Rattle.gentime.proofs.{Days.civil_date_of, Fractions.micros_of_bound}
 use Rattle.gentime.proofs.Moments.{moment_at_bound, seconds_of, seconds_of_bound, time_of-moment_at}
 use Rattle.jiff_core.proofs.SignedLemmas.{signed_arith}
 use Rattle.gentime.proofs.components.Components.micros.Goals as goal

@@ -1,7 +1,5 @@
-use Rattle.std.proofs.Common.{◌/◌, arith, w16}
-use Rattle.std.proofs.lemmas.Int.{to_z_pos}
-use Rattle.gentime.specs.Calendar.{civil_date}
-use Rattle.gentime.specs.GenTime.{time_of}
+use Rattle.std.proofs.{Common.◌/◌, Common.arith, Common.w16, lemmas.Int.to_z_pos}
+use Rattle.gentime.specs.{Calendar.civil_date, GenTime.time_of}
 use Rattle.gentime.proofs.components.Components.of.Goals as goal
 
 pub returns-clause-parts : goal.returns-clause-parts

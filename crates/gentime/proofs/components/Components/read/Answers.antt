@@ -1,5 +1,4 @@
-use Rattle.std.proofs.Common.{Some, ap}
-use Rattle.std.proofs.lemmas.Option.{none-some, same_Some}
+use Rattle.std.proofs.{Common.Some, Common.ap, lemmas.Option.none-some, lemmas.Option.same_Some}
 use Rattle.gentime.proofs.Pairs.{none_stated, some_stated, states_with, time_with-pairs_of}
 use Rattle.gentime.proofs.components.Components.read.Goals as goal
 

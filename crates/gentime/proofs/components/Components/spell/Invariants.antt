@@ -1,5 +1,4 @@
-use Rattle.std.proofs.Common.{◌≡◌, take}
-use Rattle.std.specs.List.{flat_map}
+use Rattle.std.{proofs.Common.◌≡◌, proofs.Common.take, specs.List.flat_map}
 use Rattle.gentime.specs.GenTime.{two_digits}
 use Rattle.gentime.proofs.components.Components.spell.Given as goal
 

@@ -1,7 +1,6 @@
 -- The parts of a time as the code holds them.
 use Rattle.std.specs.Prelude.{◌≡◌, pos}
-use Rattle.gentime.specs.declared.components.Components.{Components}
-use Rattle.gentime.specs.GenTime.{GeneralizedTime}
+use Rattle.gentime.specs.{declared.components.Components.Components, GenTime.GeneralizedTime}
 use Rattle.jiff_core.specs.declared.civil.date.Date.{Date}
 
 -- the same parts, without where their fraction lies in memory

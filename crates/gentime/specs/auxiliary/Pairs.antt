@@ -1,7 +1,6 @@
 -- What the digits at the front of a text are read as.
 use Rattle.std.specs.Prelude.{ℕ, zero, suc, ◌+◌, ◌-◌, ◌*◌, ◌&&◌, List, [], ◌∷◌, Option, Some, None, option_and_then}
-use Rattle.std.specs.Prelude.{if◌then◌else◌}
-use Rattle.std.specs.Char.{is_ascii_digit}
+use Rattle.std.specs.{Prelude.if◌then◌else◌, Char.is_ascii_digit}
 
 infixl 10 ◌>>=◌
 abbrev pub ◌>>=◌ : {A B : Type 0} → Option A → (A → Option B) → Option B

@@ -1,13 +1,10 @@
 -- The tests by which the code judges the rules on extensions and algorithms: stepping stones of the proofs, no
 -- definitions.
 use Rattle.std.specs.Prelude.{ℕ, ◌&&◌, ◌||◌, not, nat_le, Bool, true, false, List, [], ◌∷◌, map, length, string_bytes}
-use Rattle.std.specs.List.{list_all, list_any}
-use Rattle.std.specs.Str.{bytes_eq}
+use Rattle.std.specs.{List.list_all, List.list_any, Str.bytes_eq}
 use Rattle.der.specs.ObjectIdentifier.{oid_content}
 use Rattle.policy.specs.Kinds.{is_among}
-use Rattle.policy.specs.declared.entries.Algorithm.{Algorithm}
-use Rattle.policy.specs.declared.entries.Extension.{Extension}
-use Rattle.policy.specs.declared.entries.TsaPolicy.{TsaPolicy}
+use Rattle.policy.specs.declared.entries.{Algorithm.Algorithm, Extension.Extension, TsaPolicy.TsaPolicy}
 use Rattle.tsp.specs.Request.{ExtensionValue}
 
 abbrev pub lists_algorithm : List Algorithm → List ℕ → TsaPolicy → Bool
