@@ -1,16 +1,12 @@
 -- Octets put into their place among others in ascending order.
 use Rattle.std.proofs.Common.{◌≡◌, ℕ, zero, suc, ◌+◌, ◌<◌, ◌≤◌, Bool, true, false, cond, List, [], ◌∷◌, ◌++◌, Bor}
-use Rattle.std.proofs.Common.{length, get_or, drop, map, refl, sym, ap, ◌∙◌, subst, arith}
-use Rattle.std.proofs.Common.{add-one, drop-cons, append_assoc}
+use Rattle.std.proofs.Common.{length, get_or, drop, map, refl, sym, ap, ◌∙◌, subst, arith, add-one, drop-cons}
+use Rattle.std.{proofs.Common.append_assoc, specs.Cmp.Lexicographic.slice_cmp}
+use Rattle.std.proofs.lemmas.List.Sums.{prefix_len-drop_yes, prefix_len-drop_no, prefix_len-le-length}
 use Rattle.std.specs.Ordering.{nat_cmp, is_lt, is_gt, ordering_reverse}
-use Rattle.std.specs.declared.cmp.Ordering.{Ordering}
-use Rattle.std.specs.declared.cmp.Ordering.TheVariants.{Less, Equal, Greater}
-use Rattle.std.specs.Cmp.Lexicographic.{slice_cmp}
-use Rattle.std.specs.List.{AllByRecursion, prefix_len, insert}
-use Rattle.std.specs.List.Sorted.{IsPermutation}
-use Rattle.std.proofs.lemmas.Cmp.{nat_list_cmp_total, upto}
-use Rattle.std.proofs.lemmas.List.{append-nil, get_or-map, length-map}
-use Rattle.std.proofs.lemmas.List.Sums.{prefix_len-drop_yes, prefix_len-drop_no}
+use Rattle.std.specs.declared.cmp.Ordering.{Ordering, TheVariants.Less, TheVariants.Equal, TheVariants.Greater}
+use Rattle.std.specs.List.{AllByRecursion, prefix_len, insert, Sorted.IsPermutation}
+use Rattle.std.proofs.lemmas.{Cmp.nat_list_cmp_total, Cmp.upto, List.append-nil, List.get_or-map, List.length-map}
 use Rattle.std.proofs.lemmas.List.Sorted.{IsPermutation-refl, IsPermutation-trans, IsPermutation-middle}
 use Rattle.std.proofs.lemmas.List.Sorted.{IsPermutation-append_left, IsPermutation-insert}
 use Rattle.cms.specs.Grammar.{joined}
@@ -176,3 +172,5 @@ all_more sorted (x ∷ xs) =
 
 pub is_permutation : (xs : List (List ℕ)) → IsPermutation xs (ascending xs)
 is_permutation xs = all_more [] xs
+
+pub ruleset insert_laws = (length-map, prefix_len-le-length, inserted_at)

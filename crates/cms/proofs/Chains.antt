@@ -3,24 +3,15 @@ use Rattle.std.proofs.Common.{◌≡◌, ℕ, zero, suc, ◌+◌, ◌<◌, ◌�
 use Rattle.std.proofs.Common.{length, map, drop, refl, sym, ap, ◌∙◌, subst, append_assoc, length-append, arith}
 use mathlib.Core.Logic.{⊎_elim}
 use Rattle.std.specs.Prelude.{◌↔◌, ◌==◌, IsTrue, Result, Ok, Err, IfOk, IfErr, MatchResult}
-use Rattle.std.proofs.Common.{IsErrAnd}
-use Rattle.std.specs.Bool.{MatchBool}
-use Rattle.std.specs.List.{AllByRecursion, AllWithin, Contains, HoldsAt}
-use Rattle.std.proofs.lemmas.Bool.{eqb-true}
-use Rattle.std.proofs.Math.Seq.{drop-append_seam}
-use Rattle.std.proofs.lemmas.List.{length-map, get_or-map}
-use Rattle.std.proofs.lemmas.List.Elements.{Contains-append_right, Contains-push_cases}
+use Rattle.std.proofs.{Common.IsErrAnd, lemmas.Bool.eqb-true, Math.Seq.drop-append_seam}
+use Rattle.std.specs.{Bool.MatchBool, List.AllByRecursion, List.AllWithin, List.Contains, List.HoldsAt}
+use Rattle.std.proofs.lemmas.List.{length-map, get_or-map, Elements.Contains-append_right, Elements.Contains-push_cases}
 use Rattle.der.specs.Node.{element, encodings, node, IsLowTag}
 use Rattle.cms.specs.Certificate.{CertificateParts, IsCertificate, identity_of, identity_with, tbs_certificate}
 use Rattle.cms.specs.Chain.{IsShortCertificate, AreApart, AreFurtherCertificates, IsElement, BeginsWith, IsRefused}
-use Rattle.cms.specs.Chain.{IsChainFault}
-use Rattle.cms.specs.Chain.{IsFirstFault}
-use Rattle.cms.specs.ChainView.{IsTaken}
-use Rattle.cms.specs.Grammar.{joined}
-use Rattle.cms.specs.Identity.{IdentityValue}
-use Rattle.cms.specs.declared.fault.CmsFault.{CmsFault}
+use Rattle.cms.specs.{Chain.IsChainFault, Chain.IsFirstFault, Grammar.joined, Identity.IdentityValue}
+use Rattle.cms.{specs.auxiliary.ChainView.IsTaken, specs.declared.fault.CmsFault.CmsFault, proofs.Texts.joined-append}
 use Rattle.cms.specs.declared.fault.CmsFault.TheVariants.{NotCertificate, TooLarge, Memory, TooMany, Repeated}
-use Rattle.cms.proofs.Texts.{joined-append}
 
 -- octets begin with one element at most
 abbrev pub OneBeginning : Type 0
@@ -286,15 +277,6 @@ all_taken signer chain certificates further [] law h end fits is =
 all_taken signer chain certificates further (o ∷ rest) law h end fits is =
     let none : length (o ∷ rest) ≡ 0 = eqb-true (length (o ∷ rest)) 0 (sym end) in
     absurd (omega (arith, none))
-
-pub whole_chain : (signer chain : List ℕ) (certificates : List (List ℕ)) (rest : List ℕ)
-    → HaveTaken signer chain certificates rest → true ≡ (length rest == 0)
-    → (further : List (List ℕ)) × AreFurtherCertificates signer further × (chain ≡ joined further)
-    × (certificates ≡ signer ∷ further)
-whole_chain signer chain certificates [] h end =
-    (h.further, h.fits, h.split ∙ append_nothing (joined h.further), h.are)
-whole_chain signer chain certificates (o ∷ rest) h end =
-    let none = eqb-true (length (o ∷ rest)) 0 (sym end) in absurd (omega (arith, none))
 
 -- ---- the identity
 

@@ -1,13 +1,9 @@
 -- Frames that go out and come in piece by piece.
-use Rattle.std.proofs.Common.{◌≡◌, ℕ, suc, ◌+◌, ◌<◌, ◌≤◌, ◌^◌, List, ◌++◌, Option, length, map, take, drop}
-use Rattle.std.proofs.Common.{refl, sym, ap, ◌∙◌, subst, append_assoc, arith, drop-cons, slice_index_or}
-use Rattle.std.specs.List.{AllByRecursion}
-use Rattle.std.specs.Int.{to_be_bytes, from_be_bytes, w32}
-use Rattle.std.specs.Io.KnownBytes.{Consumes}
-use Rattle.std.proofs.KnownBytes.{Consumes-trans}
-use Rattle.std.proofs.lemmas.List.{length-append, append-nil, drop_all}
-use Rattle.std.proofs.lemmas.Nat.{from_be_bytes-to_be_bytes_4}
-use Rattle.std.proofs.Math.Seq.{take-append_seam, drop-append_seam}
+use Rattle.std.proofs.Common.{◌≡◌, ℕ, suc, ◌+◌, ◌<◌, ◌≤◌, ◌^◌, List, ◌++◌, Option, length, map, take, drop, refl, sym}
+use Rattle.std.proofs.Common.{ap, ◌∙◌, subst, append_assoc, arith, drop-cons, slice_index_or}
+use Rattle.std.specs.{List.AllByRecursion, Io.KnownBytes.Consumes, Int.to_be_bytes, Int.from_be_bytes, Int.w32}
+use Rattle.std.proofs.{KnownBytes.Consumes-trans, Math.Seq.take-append_seam, Math.Seq.drop-append_seam}
+use Rattle.std.proofs.lemmas.{List.length-append, List.append-nil, List.drop_all, Nat.from_be_bytes-to_be_bytes_4}
 use Rattle.cms.specs.Framed.{frame, frames, IsShort, IsAnswer, ReceivesNoAnswer}
 
 pub frame_is : (octets : List ℕ) → frame octets ≡ to_be_bytes w32 (length octets) ++ octets
@@ -51,10 +47,6 @@ pub last_frame : {T : Type 0} (f : T → List ℕ) (texts : List T) (i : ℕ) (o
     → octets ++ frames (map f (drop i texts)) ≡ whole → octets ≡ whole
 last_frame f texts i octets whole none before =
     sym (append-nil octets) ∙ ap (λ ts. octets ++ frames (map f ts)) (sym (drop_all i texts none)) ∙ before
-
-pub short_last : {T : Type 0} (f : T → List ℕ) (texts : List T) (i : ℕ) → length texts ≤ i
-    → AllByRecursion IsShort (map f (drop i texts))
-short_last f texts i none = subst (λ ts. AllByRecursion IsShort (map f ts)) (sym (drop_all i texts none)) tt
 
 -- an answer's frame has at least five octets
 too_short : (received answer rest : List ℕ) → length received < 5 → IsAnswer answer → received ≡ frame answer ++ rest
@@ -103,3 +95,5 @@ receives_frame u v w count answer same first second =
     let whole : to_be_bytes w32 count ++ answer ≡ frame answer =
     ap (λ n. to_be_bytes w32 n ++ answer) (sym same) ∙ sym (frame_is answer) in
     subst P whole (Consumes-trans u v w (to_be_bytes w32 count) answer first second)
+
+pub ruleset receiving_laws = (receives_too_few, receives_part, receives_frame)

@@ -1,7 +1,6 @@
 -- The contents octets of the object identifiers and versions in a token.
 use Rattle.std.proofs.Common.{◌≡◌, pos, [], ◌∷◌, refl}
-use Rattle.der.specs.Number.{number_content}
-use Rattle.der.specs.ObjectIdentifier.{oid_content, subidentifier_octets}
+use Rattle.der.specs.{Number.number_content, ObjectIdentifier.oid_content, ObjectIdentifier.subidentifier_octets}
 use Rattle.cms.specs.SignedData.{id_signed_data, id_ct_tst_info, id_content_type, id_message_digest}
 use Rattle.cms.specs.SignedData.{id_signing_certificate_v2, id_sha256}
 

@@ -1,6 +1,5 @@
 pub mod Ascending
 pub mod Chains
-pub mod Digits
 pub mod FramePieces
 pub mod Identifiers
 pub mod Members

@@ -1,8 +1,7 @@
 -- What is written member after member is what the definitions join.
 use Rattle.std.proofs.Common.{◌≡◌, ℕ, List, [], ◌∷◌, ◌++◌, ap, sym, ◌∙◌, append_assoc}
 use Rattle.std.proofs.lemmas.List.{append-nil}
-use Rattle.der.specs.Node.{element}
-use Rattle.der.specs.ObjectIdentifier.{oid_content}
+use Rattle.der.specs.{Node.element, ObjectIdentifier.oid_content}
 use Rattle.cms.specs.Grammar.{joined, object_identifier}
 
 pub joined_one : (a x : List ℕ) → a ≡ x → a ≡ joined (x ∷ [])

@@ -1,24 +1,18 @@
 -- A certificate's and an algorithm's values are read as their parts, and what is read so is such a value.
-use Rattle.std.proofs.Common.{◌≡◌, ℕ, Bool, true, false, cond, ◌&&◌, List, Option, Some, None, refl, sym, ap, ◌∙◌}
-use Rattle.std.proofs.Common.{◌≤◌, suc, leb, subst, eqb, arith}
+use Rattle.std.proofs.Common.{◌≡◌, ℕ, Bool, true, false, cond, ◌&&◌, List, Option, Some, None, refl, sym, ap, ◌∙◌, ◌≤◌}
+use Rattle.std.proofs.Common.{suc, leb, subst, eqb, arith}
 use Rattle.std.specs.Option.{option_map, is_some, IfSome, MatchOption}
 use Rattle.std.specs.Prelude.{◌↔◌, Result, Ok, Err, is_ok}
-use Rattle.std.proofs.lemmas.List.{append-nil}
-use Rattle.der.specs.DataValue.{AreEncodings, values_in}
-use Rattle.der.specs.declared.fault.DerFault.{DerFault}
-use Rattle.std.proofs.lemmas.Option.{option_and_then_some, cond_some, none-some, same_Some}
-use Rattle.std.proofs.lemmas.Bool.{eqb-true, leb-true}
-use Rattle.std.proofs.lemmas.Bool.Decides.{nat_tests}
-use Rattle.der.specs.Node.{Node, primitive, constructed, Nodes, no_nodes, node, contents_of, components_of}
+use Rattle.std.proofs.lemmas.{List.append-nil, Bool.eqb-true, Bool.leb-true, Bool.Decides.nat_tests}
+use Rattle.der.specs.{DataValue.AreEncodings, DataValue.values_in, declared.fault.DerFault.DerFault, Number.is_shortest}
+use Rattle.der.specs.Node.{encodings, Node, primitive, constructed, Nodes, no_nodes, node, contents_of, components_of}
 use Rattle.der.specs.Node.{identifier_of, first_of, levels, levels_of, IsFormed, AreFormed, IsLawful, encoding}
-use Rattle.der.specs.Node.{encodings}
-use Rattle.der.specs.Number.{is_shortest}
+use Rattle.std.proofs.lemmas.Option.{option_and_then_some, cond_some, none-some, same_Some}
 use Rattle.der.specs.ObjectIdentifier.{oid_of, oid_content, IsOid}
 use Rattle.cms.specs.Certificate.{CertificateParts, with_version, serial_number, subject_name, after_serial}
-use Rattle.cms.specs.Certificate.{after_issuer, certificate, IsCertificate, optional}
-use Rattle.cms.specs.Certificate.{algorithm_identifier, IsAlgorithm}
-use Rattle.cms.specs.Outline.{Outline, outline, sequence_at, subject_at, serial_at, after_version, outline_of}
-use Rattle.cms.specs.Outline.{is_optional, algorithm_of}
+use Rattle.cms.specs.Certificate.{after_issuer, certificate, IsCertificate, optional, algorithm_identifier, IsAlgorithm}
+use Rattle.cms.specs.auxiliary.Outline.{Outline, outline, sequence_at, subject_at, serial_at, after_version, outline_of}
+use Rattle.cms.specs.auxiliary.Outline.{is_optional, algorithm_of}
 
 contents_takes : (tag : ℕ) (n : Node) (c : List ℕ) → contents_of tag n ≡ Some c → n ≡ primitive tag c
 contents_takes tag (primitive t d) c e =

@@ -1,11 +1,9 @@
 -- Where a certificate's issuer, serial number and subject stand in its octets.
 use Rattle.std.proofs.Common.{◌≡◌, ℕ, ◌+◌, ◌-◌, ◌≤◌, List, [], ◌∷◌, ◌++◌, Option, Some, None, length, take, drop}
 use Rattle.std.proofs.Common.{slice_range, refl, sym, ap, ◌∙◌, append_assoc, arith}
-use Rattle.std.proofs.lemmas.List.{length-append}
-use Rattle.std.proofs.Math.Seq.{take-append_seam, drop-append_seam}
+use Rattle.std.proofs.{lemmas.List.length-append, Math.Seq.take-append_seam, Math.Seq.drop-append_seam}
 use Rattle.der.specs.Node.{Node, constructed, Nodes, node, encoding, encodings, length_octets}
-use Rattle.cms.specs.Place.{IsPlace}
-use Rattle.cms.specs.declared.place.Place.{Place}
+use Rattle.cms.specs.{Place.IsPlace, declared.place.Place.Place}
 use Rattle.cms.specs.Certificate.{CertificateParts, with_version, serial_number, issuer_name, subject_name}
 use Rattle.cms.specs.Certificate.{after_serial, after_issuer, certificate}
 

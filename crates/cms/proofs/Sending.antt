@@ -1,16 +1,12 @@
 -- What goes out of a session, by what was written.
-use Rattle.std.proofs.Common.{◌≡◌, ℕ, ◌<◌, true, false, List, [], ◌∷◌, ◌++◌, Result, Ok, Err, Option, None, Some}
-use Rattle.std.proofs.Common.{refl, sym, ◌∙◌, subst, inl, inr, append_assoc, length, arith}
-use Rattle.std.proofs.lemmas.List.{append-nil}
-use Rattle.std.proofs.KnownBytes.{Appends-nil}
-use Rattle.std.specs.Io.KnownBytes.{Appends, Consumes, append_known}
-use Rattle.std.specs.List.{AllByRecursion}
+use Rattle.std.proofs.Common.{◌≡◌, ℕ, ◌<◌, true, false, List, [], ◌∷◌, ◌++◌, Result, Ok, Err, Option, None, Some, refl}
+use Rattle.std.proofs.Common.{sym, ◌∙◌, subst, inl, inr, append_assoc, length, arith}
+use Rattle.std.proofs.{lemmas.List.append-nil, KnownBytes.Appends-nil}
+use Rattle.std.specs.{Io.KnownBytes.Appends, Io.KnownBytes.Consumes, Io.KnownBytes.append_known, List.AllByRecursion}
 use Rattle.cms.specs.Ahead.{AreOutstanding, IsAhead, FailsFirst, SendsAhead, ReceivesAhead}
 use Rattle.cms.specs.Framed.{frame, frames, FramedState, Asks, closes, SendsBeginning, ReceivesNoAnswer, SignsByFrame}
-use Rattle.cms.specs.Framed.{IsShort}
-use Rattle.cms.specs.Sent.{ArePartOf, SendsFrames}
-use Rattle.cms.specs.declared.signer.SignerFault.{SignerFault}
-use Rattle.cms.specs.declared.signer.SignerFault.TheVariants.{Failed, Memory}
+use Rattle.cms.specs.{Framed.IsShort, Sent.ArePartOf, Sent.SendsFrames}
+use Rattle.cms.specs.declared.signer.SignerFault.{SignerFault, TheVariants.Failed, TheVariants.Memory}
 
 all_of : {X : Type 0} (list : List X) → ArePartOf list list
 all_of [] = tt
@@ -225,3 +221,6 @@ receives_none o unread after is stops x text texts a = (
     },
   ),
 )
+
+pub ruleset sending_laws =
+    (writes_nothing, writes_some, writes_all, fails_closed, fails_open, fails_to_send, appends_alike, begins_alike)

@@ -1,9 +1,7 @@
 -- Texts that are signed one after the other, and texts that are handed over: one more.
-use Rattle.std.proofs.Common.{◌≡◌, ℕ, List, [], ◌∷◌, ◌++◌, Result, Vec, refl, ap, subst, sym, ◌∙◌}
-use Rattle.std.proofs.Common.{◌<◌, ◌≤◌, ◌+◌, suc, length, take, drop, map, slice_index_or, IfOk, Ok, Err, vec_len}
-use Rattle.std.proofs.Common.{arith, drop-cons}
-use Rattle.std.specs.List.{AllByRecursion}
-use Rattle.std.proofs.lemmas.List.{take_more, map-append}
+use Rattle.std.proofs.Common.{◌≡◌, ℕ, List, [], ◌∷◌, ◌++◌, Result, Vec, refl, ap, subst, sym, ◌∙◌, ◌<◌, ◌≤◌, ◌+◌, suc}
+use Rattle.std.proofs.Common.{length, take, drop, map, slice_index_or, IfOk, Ok, Err, vec_len, arith, drop-cons}
+use Rattle.std.{specs.List.AllByRecursion, proofs.lemmas.List.take_more, proofs.lemmas.List.map-append}
 use Rattle.cms.specs.declared.signer.SignerFault.{SignerFault}
 use Rattle.cms.specs.Signer.{count_after, count_after_each, SignsEach, IsSized, AwaitsInTurn}
 

@@ -1,6 +1,6 @@
 -- What is written for each type of a token is its definition.
 use Rattle.std.proofs.Common.{◌≡◌, ℕ, Bool, true, false, List, [], ◌∷◌, ◌++◌, refl, ap, sym, ◌∙◌, append_assoc}
-use Rattle.std.proofs.lemmas.List.{append-nil}
+use Rattle.std.proofs.lemmas.{List.append-nil, Result.IfOk-weaker}
 use Rattle.sha2.specs.Sha256.{sha256}
 use Rattle.der.specs.Node.{element}
 use Rattle.cms.specs.Grammar.{joined, integer, octet_string, object_identifier, sequence, set, under_zero}
@@ -175,3 +175,5 @@ pub token_text : (identity : IdentityValue) (algorithm tst signature : List ℕ)
     ≡ token identity algorithm tst signature with_certificate
 unfolding token
 token_text identity algorithm tst signature with_certificate = refl
+
+pub ruleset text_laws = (append-nil, IfOk-weaker)

@@ -1,10 +1,8 @@
 -- Texts that are sent to a session ahead of its answers to those before them.
 use Rattle.std.specs.Prelude.{◌≡◌, ℕ, List, [], ◌∷◌, length, Result, Ok, Err, Vec, vec_len, false}
-use Rattle.std.specs.Io.KnownBytes.{Appends}
-use Rattle.std.specs.List.{AllByRecursion}
+use Rattle.std.specs.{Io.KnownBytes.Appends, List.AllByRecursion}
 use Rattle.cms.specs.Framed.{frames, IsShort, FramedState}
-use Rattle.cms.specs.declared.signer.SignerFault.{SignerFault}
-use Rattle.cms.specs.declared.signer.SignerFault.TheVariants.{Failed, Memory}
+use Rattle.cms.specs.declared.signer.SignerFault.{SignerFault, TheVariants.Failed, TheVariants.Memory}
 
 -- the first of some texts may fail
 abbrev pub FailsFirst : {S : Type 0} → (S → List ℕ → Result (List ℕ) SignerFault → S → Type 0) → S → List (List ℕ)

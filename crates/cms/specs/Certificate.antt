@@ -1,11 +1,8 @@
 -- A certificate, as far as it is read: whose it is, and under which number (RFC 5280 4.1).
 use Rattle.std.specs.Prelude.{◌≡◌, ℕ, ◌≤◌, true, List, [], ◌∷◌, length, Option, Some, None}
 use Rattle.der.specs.Node.{Node, primitive, constructed, Nodes, no_nodes, node, encoding, levels, IsFormed, IsLawful}
-use Rattle.der.specs.Number.{is_shortest}
-use Rattle.der.specs.ObjectIdentifier.{IsOid, oid_content}
-use Rattle.cms.specs.Grammar.{joined}
-use Rattle.cms.specs.Identity.{IdentityValue}
-use Rattle.cms.specs.SetOf.{ascending}
+use Rattle.der.specs.{Number.is_shortest, ObjectIdentifier.IsOid, ObjectIdentifier.oid_content}
+use Rattle.cms.specs.{Grammar.joined, SetOf.ascending, Identity.IdentityValue}
 
 -- The parts of a certificate: what is in its version, if one stands, its serial number's contents octets, what is in
 -- its four SEQUENCEs, the further members of its TBSCertificate, and its own further members.

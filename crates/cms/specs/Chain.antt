@@ -3,9 +3,7 @@ use Rattle.std.specs.Prelude.{◌≡◌, ◌⊎◌, ℕ, ◌<◌, ◌≤◌, ◌
 use Rattle.std.specs.List.{AllByRecursion, Contains}
 use Rattle.der.specs.Node.{element, IsLowTag}
 use Rattle.cms.specs.Certificate.{CertificateParts, IsCertificate}
-use Rattle.cms.specs.Grammar.{joined}
-use Rattle.cms.specs.SetOf.{ascending}
-use Rattle.cms.specs.declared.fault.CmsFault.{CmsFault}
+use Rattle.cms.specs.{Grammar.joined, SetOf.ascending, declared.fault.CmsFault.CmsFault}
 use Rattle.cms.specs.declared.fault.CmsFault.TheVariants.{NotCertificate, TooLarge, Memory, TooMany, Repeated}
 
 -- The octets are a certificate, of at most 16,384 octets.

@@ -1,10 +1,8 @@
 -- A signer at the other end of a connection: what goes out and what comes in, in frames.
-use Rattle.std.specs.Prelude.{◌≡◌, ◌⊎◌, ℕ, ◌^◌, ◌<◌, ◌≤◌, Bool, true, false, List, [], ◌∷◌, ◌++◌, length, Option, Result}
-use Rattle.std.specs.Prelude.{Ok, Err}
-use Rattle.std.specs.Int.{to_be_bytes, w32}
+use Rattle.std.specs.Prelude.{◌≡◌, ◌⊎◌, ℕ, ◌^◌, ◌<◌, ◌≤◌, Bool, true, false, List, [], ◌∷◌, ◌++◌, length, Option}
+use Rattle.std.specs.{Prelude.Result, Prelude.Ok, Prelude.Err, Int.to_be_bytes, Int.w32}
 use Rattle.std.specs.Io.KnownBytes.{Appends, Consumes}
-use Rattle.cms.specs.declared.signer.SignerFault.{SignerFault}
-use Rattle.cms.specs.declared.signer.SignerFault.TheVariants.{Failed, Memory}
+use Rattle.cms.specs.declared.signer.SignerFault.{SignerFault, TheVariants.Failed, TheVariants.Memory}
 
 -- octets with their number in front, in four octets, most significant first
 unfoldable pub frame : List ℕ → List ℕ

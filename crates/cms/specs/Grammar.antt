@@ -1,9 +1,7 @@
 -- The values of which a token is made, each by its encoding (X.690 8.3, 8.7, 8.9, 8.11, 8.14, 8.19). A certificate, an
 -- issuer and an algorithm stand in a token as they are, so what is put together here are encodings.
 use Rattle.std.specs.Prelude.{ℕ, pos, List, [], ◌∷◌, ◌++◌}
-use Rattle.der.specs.Node.{element}
-use Rattle.der.specs.Number.{number_content}
-use Rattle.der.specs.ObjectIdentifier.{oid_content}
+use Rattle.der.specs.{Node.element, Number.number_content, ObjectIdentifier.oid_content}
 
 -- encodings one after the other
 abbrev pub joined : List (List ℕ) → List ℕ

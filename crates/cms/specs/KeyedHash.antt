@@ -1,8 +1,7 @@
 -- The stand-in signer: a hash of a key and the text.
 use Rattle.std.specs.Prelude.{◌≡◌, ◌⊎◌, ℕ, List, [], ◌∷◌, ◌++◌, Result, Ok, Err}
 use Rattle.sha2.specs.Sha256.{sha256}
-use Rattle.cms.specs.declared.signer.SignerFault.{SignerFault}
-use Rattle.cms.specs.declared.signer.SignerFault.TheVariants.{Memory}
+use Rattle.cms.specs.declared.signer.SignerFault.{SignerFault, TheVariants.Memory}
 
 -- SHA-256 of the key followed by the text, or want of memory; the key stays
 abbrev pub SignsByHash : List ℕ → List ℕ → Result (List ℕ) SignerFault → List ℕ → Type 0

@@ -1,8 +1,6 @@
 -- The order of a SET OF under the distinguished encoding rules (X.690 11.6).
 use Rattle.std.specs.Prelude.{◌≡◌, ℕ, Bool, false, if◌then◌else◌, List, [], ◌∷◌}
-use Rattle.std.specs.List.{AllByRecursion}
-use Rattle.std.specs.Ordering.{nat_cmp, is_lt}
-use Rattle.std.specs.Cmp.Lexicographic.{slice_cmp}
+use Rattle.std.specs.{List.AllByRecursion, Cmp.Lexicographic.slice_cmp, Ordering.nat_cmp, Ordering.is_lt}
 
 -- other octets come before these: of two, the one with the lesser octet where they first differ (X.690 11.6)
 abbrev pub comes_before : List ℕ → List ℕ → Bool

@@ -1,8 +1,7 @@
 -- What a signer answers.
 use Rattle.std.specs.Prelude.{◌≡◌, ℕ, ◌≤◌, List, [], ◌∷◌, Result, Ok, Err, IfOk, Vec, vec_len}
 use Rattle.std.specs.Hash.DefaultHasher.{wrapping_add}
-use Rattle.cms.specs.declared.signer.SignerFault.{SignerFault}
-use Rattle.cms.specs.declared.signer.SignerFault.TheVariants.{Failed, Memory}
+use Rattle.cms.specs.declared.signer.SignerFault.{SignerFault, TheVariants.Failed, TheVariants.Memory}
 
 -- the refusals' numbers
 abbrev pub number_of : SignerFault → ℕ

@@ -1,13 +1,10 @@
 //! The further certificates that go with a signer's.
-ghost use Rattle.std.specs.Prelude.{◌≡◌, ◌⊎◌, ◌↔◌, ℕ, List, ◌∷◌, map, Contains, IsTrue, IfOk, IfErr, OnOk};
-ghost use Rattle.std.specs.Prelude.{MatchResult};
+ghost use Rattle.std.specs.Prelude.{◌≡◌, ◌⊎◌, ◌↔◌, ℕ, List, ◌∷◌, map, Contains, IsTrue, IfOk, IfErr, OnOk, MatchResult};
 ghost use Rattle.cms.specs.Chain.{AreFurtherCertificates, BeginsWith, IsChainFault, IsRefused, IsShortCertificate};
-ghost use Rattle.cms.specs.ChainView.{IsFrontFault, IsTaken};
-ghost use Rattle.cms.specs.Grammar.{joined};
+ghost use Rattle.cms.specs.auxiliary.ChainView.{IsFrontFault, IsTaken};
+ghost use Rattle.cms.specs.{Grammar.joined, declared.fault.CmsFault.TheVariants.Memory};
 ghost use Rattle.cms.specs.SetOf.{comes_before, inserted, ascending, IsAscending};
-ghost use Rattle.std.specs.List.{prefix_len};
-ghost use Rattle.std.specs.List.Sorted.{IsPermutation};
-ghost use Rattle.cms.specs.declared.fault.CmsFault.TheVariants.{Memory};
+ghost use Rattle.std.specs.List.{prefix_len, Sorted.IsPermutation};
 
 use crate::fault::CmsFault;
 use crate::place::places_in;
@@ -87,6 +84,7 @@ pub(crate) fn certificates_of<'a>(
 }
 
 /// How many octets come before these, from the front on.
+#[tactic(auto, using(crate::proofs::Ascending::one_before, crate::proofs::Ascending::none_before))]
 fn place_among(sorted: &[&[u8]], octets: &[u8]) -> usize
     ensures { result ≡ prefix_len (comes_before octets.now) (map (λ o. o.now) sorted.now) }
 {
@@ -98,6 +96,7 @@ fn place_among(sorted: &[&[u8]], octets: &[u8]) -> usize
 }
 
 /// Puts octets in front of the first that doesn't come before them.
+#[tactic(auto, using(crate::proofs::Ascending::insert_laws))]
 fn insert<'a>(sorted: &mut Vec<&'a [u8]>, octets: &'a [u8]) -> Result<(), AllocError>
     ensures { OnOk result (map (λ o. o.now) sorted.new.items
         ≡ inserted octets.now (map (λ o. o.now) sorted.old.items)) }
@@ -108,6 +107,7 @@ fn insert<'a>(sorted: &mut Vec<&'a [u8]>, octets: &'a [u8]) -> Result<(), AllocE
 }
 
 /// Octets in ascending order, as DER has the elements of a SET OF (X.690 11.6).
+#[tactic(auto, using(crate::proofs::Ascending::sorted_more))]
 fn sorted<'a>(alloc: Global, octets: &[&'a [u8]]) -> Result<Vec<&'a [u8]>, AllocError>
     ensures { IfOk result (λ sorted. map (λ o. o.now) sorted.items ≡ ascending (map (λ o. o.now) octets.now)) }
 {
@@ -119,6 +119,7 @@ fn sorted<'a>(alloc: Global, octets: &[&'a [u8]]) -> Result<Vec<&'a [u8]>, Alloc
 }
 
 /// A SET OF and its order (X.690 11.6): it ascends, and has the same members, each as often.
+#[tactic(auto, using(crate::proofs::Ascending::is_ascending, crate::proofs::Ascending::is_permutation))]
 pub fn sets_are_ascending()
     ensures ascending { (members : List (List ℕ)) → IsAscending (ascending members) }
     ensures permutation { (members : List (List ℕ)) → IsPermutation members (ascending members) }

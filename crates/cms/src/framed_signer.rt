@@ -1,8 +1,7 @@
 //! A signer at the other end of a connection.
-ghost use Rattle.std.specs.Prelude.{◌≡◌, ◌≤◌, ◌∷◌, [], true, IfOk, vec_len};
+ghost use Rattle.std.specs.Prelude.{◌≡◌, ◌≤◌, [], true, IfOk, vec_len};
 ghost use Rattle.std.specs.Hash.DefaultHasher.{wrapping_add};
-ghost use Rattle.cms.specs.Framed.{Asks, over_ends};
-ghost use Rattle.cms.specs.Signer.{signed_by};
+ghost use Rattle.cms.specs.{Framed.Asks, Framed.over_ends, Signer.signed_by};
 ghost use Rattle.cms.specs.declared.signer.SignerFault.TheVariants.{Failed};
 
 use crate::algorithm::Algorithm;
@@ -107,10 +106,8 @@ impl<R: Read, W: Write> FramedSigner<R, W> {
 }
 
 impl<R: Read, W: Write> Signer for FramedSigner<R, W> {
-    ghost use Rattle.cms.specs.Framed.{SignsByFrame};
-    ghost use Rattle.cms.specs.Sent.{SendsFrames};
-    ghost use Rattle.cms.specs.Signer.{AwaitsInTurn};
-    ghost use Rattle.cms.specs.SentLaws.{sends_nothing, sends_after, sends_others};
+    ghost use Rattle.cms.specs.{Framed.SignsByFrame, Sent.SendsFrames, Signer.AwaitsInTurn};
+    ghost use Rattle.cms.specs.auxiliary.SentLaws.{sends_nothing, sends_after, sends_others};
 
     ghost signs = { SignsByFrame };
 
@@ -122,6 +119,7 @@ impl<R: Read, W: Write> Signer for FramedSigner<R, W> {
 
     ghost algorithm_octets = { λ signer. signer.algorithm };
 
+    #[tactic(auto, using(crate::proofs::Sending::asks_once, crate::proofs::Sending::writes_nothing))]
     fn sign(&mut self, text: &[u8]) -> Result<Vec<u8>, SignerFault> {
         if self.is_closed {
             return Err(self.fail());
@@ -157,13 +155,13 @@ impl<R: Read, W: Write> Signer for FramedSigner<R, W> {
 }
 
 impl<R: Read, W: Write> Pipeline for FramedSigner<R, W> {
-    ghost use Rattle.cms.specs.Ahead.{IsAhead};
-    ghost use Rattle.cms.specs.SentLaws.{sends_no_more};
+    ghost use Rattle.cms.specs.{Ahead.IsAhead, auxiliary.SentLaws.sends_no_more};
 
     ghost ahead = { IsAhead };
 
     ghost closed = { λ session. session.is_closed ≡ true };
 
+    #[tactic(auto, using(crate::proofs::Sending::sending_laws))]
     fn send_ahead(&mut self, texts: &[&[u8]]) -> Result<Vec<AnswerRoom>, SignerFault> {
         if self.is_closed {
             return Err(self.fail());

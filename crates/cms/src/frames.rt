@@ -1,7 +1,6 @@
 //! Frames: octets with their number in front, over any reader and writer.
 ghost use Rattle.std.specs.Prelude.{◌≡◌, ◌^◌, ◌<◌, ◌++◌, ℕ, List, map, length, slice_index, IfOk, OnOk, OnErr, vec_len};
-ghost use Rattle.std.specs.List.{AllByRecursion};
-ghost use Rattle.std.specs.Int.{to_be_bytes, w32};
+ghost use Rattle.std.specs.{List.AllByRecursion, Int.to_be_bytes, Int.w32};
 ghost use Rattle.std.specs.Io.KnownBytes.{Appends, Consumes};
 ghost use Rattle.cms.specs.Framed.{frame, frames, IsAnswer, IsShort, SendsBeginning, ReceivesNoAnswer};
 
@@ -48,6 +47,7 @@ fn read_octets<R: Read>(reader: &mut R, octets: &mut [u8]) -> Result<(), Stopped
 }
 
 /// Reads a number in four octets, most significant first.
+#[tactic(auto, using(crate::proofs::FramePieces::receives_too_few))]
 fn read_count<R: Read>(reader: &mut R) -> Result<u32, Stopped>
     ensures ok { IfOk result (λ count.
         Consumes (R.remaining reader.old) (R.remaining reader.new) (to_be_bytes w32 count)) }
@@ -74,6 +74,7 @@ fn fill<R: Read>(reader: &mut R, room: &mut Vec<u8>) -> Result<(), Stopped>
 }
 
 /// Reads a frame of 1 to 4,096 octets into room for so many, and leaves the octets there.
+#[tactic(auto, using(crate::proofs::FramePieces::receiving_laws))]
 pub(crate) fn receive<R: Read>(reader: &mut R, room: &mut Vec<u8>) -> Result<(), Stopped>
     requires { vec_len room.old ≡ 4096 }
     ensures ok { OnOk result (Consumes (R.remaining reader.old) (R.remaining reader.new) (frame room.new.items)) }
@@ -95,6 +96,7 @@ pub(crate) fn receive<R: Read>(reader: &mut R, room: &mut Vec<u8>) -> Result<(),
 }
 
 /// Puts a frame behind octets.
+#[tactic(auto, using(crate::proofs::FramePieces::frame_behind))]
 fn push_frame(octets: &mut Vec<u8>, text: &[u8]) -> Result<(), AllocError>
     requires { length text.now < 2 ^ 32 }
     ensures { OnOk result (octets.new.items ≡ octets.old.items ++ frame text.now) }

@@ -1,13 +1,10 @@
 //! Whose key signs.
 ghost use Rattle.std.specs.Prelude.{◌≡◌, ◌<◌, ◌≤◌, ◌↔◌, ℕ, List, [], length, Err, IfOk, IfErr, MatchResult};
-ghost use Rattle.der.specs.DataValue.{value_in};
-ghost use Rattle.der.specs.DataValueView.{value_view};
+ghost use Rattle.der.specs.{DataValue.value_in, DataValueView.value_view};
 ghost use Rattle.sha2.specs.Sha256.{sha256};
-ghost use Rattle.cms.specs.Certificate.{CertificateParts, IsCertificate, IsSubject, IsSubjectName};
-ghost use Rattle.cms.specs.Certificate.{identity_of, identity_with};
+ghost use Rattle.cms.specs.Certificate.{CertificateParts, IsCertificate, IsSubject, IsSubjectName, identity_of};
+ghost use Rattle.cms.specs.{Certificate.identity_with, Grammar.joined, Place.ArePlaces};
 ghost use Rattle.cms.specs.Chain.{AreAll, AreFurtherCertificates, IsFirstFault, IsSignerCertificateFault};
-ghost use Rattle.cms.specs.Grammar.{joined};
-ghost use Rattle.cms.specs.Place.{ArePlaces};
 ghost use Rattle.cms.specs.declared.fault.CmsFault.TheVariants.{TooLarge, Memory};
 
 use crate::chain::{MAX_CERTIFICATE, certificates_of, join_ascending};
@@ -33,9 +30,7 @@ pub struct Identity {
 
 impl Model for Identity {
     ghost use Rattle.std.specs.Prelude.{◌≡◌, ◌≤◌, length, slice_range};
-    ghost use Rattle.cms.specs.Chain.{AreAll};
-    ghost use Rattle.cms.specs.Identity.{IdentityValue};
-    ghost use Rattle.cms.specs.Place.{IsSubjectPlace};
+    ghost use Rattle.cms.specs.{Chain.AreAll, Place.IsSubjectPlace, Identity.IdentityValue};
     ghost use Rattle.sha2.specs.Sha256.{sha256};
 
     ghost Value = { IdentityValue };
@@ -61,7 +56,8 @@ fn signer_places(certificate: &[u8]) -> Result<Places, CmsFault>
         × (IsCertificate certificate.now p × (length certificate.now ≤ 16384)
         × ArePlaces certificate.now p found.issuer found.serial found.subject)) }
     ensures only { (p : CertificateParts) → IsCertificate certificate.now p → length certificate.now ≤ 16384
-        → MatchResult result (λ found. ArePlaces certificate.now p found.issuer found.serial found.subject) (λ fault. ⊥) }
+        → MatchResult result (λ found. ArePlaces certificate.now p found.issuer found.serial found.subject)
+        (λ fault. ⊥) }
     ensures err { IfErr result (IsSignerCertificateFault certificate.now) }
 {
     if certificate.len() > MAX_CERTIFICATE {
@@ -82,8 +78,8 @@ fn copy_of(alloc: Global, octets: &[u8]) -> Result<Vec<u8>, AllocError>
 impl Identity {
     /// The identity that a certificate stands for: its octets are a lawful value, a SEQUENCE of a TBSCertificate and
     /// any further members (RFC 5280 4.1). The TBSCertificate has a version under [0], where it stands, a serial number
-    /// in the shortest form, four SEQUENCEs (signature, issuer, validity, subject), and any further members. The subject
-    /// has at most 29 levels. Nothing else of it is looked at.
+    /// in the shortest form, four SEQUENCEs (signature, issuer, validity, subject), and any further members. The
+    /// subject has at most 29 levels. Nothing else of it is looked at.
     ///
     /// Refused as `TooLarge` for more than 16,384 octets, which is judged first, as `NotCertificate` where the octets
     /// are no such certificate, and as `Memory` where memory runs out for one that they are.

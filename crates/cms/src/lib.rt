@@ -4,7 +4,6 @@
 mod algorithm;
 mod answer_room;
 mod chain;
-mod encode;
 mod fault;
 mod framed_signer;
 mod frames;

@@ -1,11 +1,10 @@
 //! Where issuer, serial number and subject stand in a certificate.
 ghost use Rattle.std.specs.Prelude.{◌≡◌, MatchOption, Some, IfSome, option_map, ◌↔◌, IsTrue, nat_le};
-ghost use Rattle.der.specs.DataValueView.{value_view, values_view};
-ghost use Rattle.der.specs.Node.{Node, levels};
+ghost use Rattle.der.specs.{DataValueView.value_view, DataValueView.values_view, Node.Node, Node.levels};
 ghost use Rattle.cms.specs.Certificate.{CertificateParts, IsCertificate, IsSubject, IsAlgorithm};
-ghost use Rattle.cms.specs.Outline.{sequence_at, subject_at, serial_at, after_version, outline_of, outline};
-ghost use Rattle.cms.specs.Outline.{◌>>=◌ as ◌⟫◌, is_optional, algorithm_of};
-ghost use Rattle.cms.specs.OutlineView.{outline_view};
+ghost use Rattle.cms.specs.auxiliary.Outline.{sequence_at, subject_at, serial_at, after_version, outline_of, outline};
+ghost use Rattle.cms.specs.auxiliary.Outline.{◌>>=◌ as ◌⟫◌, is_optional, algorithm_of};
+ghost use Rattle.cms.specs.auxiliary.OutlineView.{outline_view};
 
 use crate::tags::UNDER_ZERO;
 use der::{
@@ -30,7 +29,7 @@ pub(crate) struct Outline<'a> {
 }
 
 /// Takes a SEQUENCE off.
-#[tactic(auto, unfolding(crate::specs::Outline::sequence_at))]
+#[tactic(auto, unfolding(crate::specs::auxiliary::Outline::sequence_at))]
 fn sequence<'a>(members: &mut DataValues<'a>) -> Option<DataValue<'a>>
     ensures { option_map (λ value. (value_view value, values_view members.new)) result
         ≡ sequence_at (values_view members.old) }
@@ -41,6 +40,7 @@ fn sequence<'a>(members: &mut DataValues<'a>) -> Option<DataValue<'a>>
 }
 
 /// Whether a value has at most 29 levels.
+#[tactic(auto, using(crate::proofs::Outlines::shallow_told))]
 fn is_shallow(value: &DataValue<'_>) -> bool
     ensures { result ≡ nat_le (levels (value_view value.now)) 29 }
 {
@@ -49,7 +49,7 @@ fn is_shallow(value: &DataValue<'_>) -> bool
 }
 
 /// Takes a subject off, a SEQUENCE of at most 29 levels.
-#[tactic(auto, unfolding(crate::specs::Outline::subject_at))]
+#[tactic(auto, unfolding(crate::specs::auxiliary::Outline::subject_at))]
 fn subject<'a>(members: &mut DataValues<'a>) -> Option<DataValue<'a>>
     ensures { option_map (λ value. (value_view value, values_view members.new)) result
         ≡ subject_at (values_view members.old) }
@@ -63,7 +63,7 @@ fn subject<'a>(members: &mut DataValues<'a>) -> Option<DataValue<'a>>
 }
 
 /// Takes a serial number off, an INTEGER in the shortest form.
-#[tactic(auto, unfolding(crate::specs::Outline::serial_at))]
+#[tactic(auto, unfolding(crate::specs::auxiliary::Outline::serial_at))]
 fn serial<'a>(members: &mut DataValues<'a>) -> Option<DataValue<'a>>
     ensures { option_map (λ value. (value_view value, values_view members.new)) result
         ≡ serial_at (values_view members.old) }
@@ -77,7 +77,7 @@ fn serial<'a>(members: &mut DataValues<'a>) -> Option<DataValue<'a>>
 }
 
 /// Takes the version off, where it stands.
-#[tactic(auto, unfolding(crate::specs::Outline::after_version))]
+#[tactic(auto, unfolding(crate::specs::auxiliary::Outline::after_version))]
 fn skip_version(members: &mut DataValues<'_>)
     ensures { values_view members.new ≡ after_version (values_view members.old) }
 {
@@ -126,7 +126,7 @@ fn outline_after<'a>(mut members: DataValues<'a>, after: DataValues<'a>) -> Opti
 }
 
 /// The outline of a certificate (RFC 5280 4.1); none where the value isn't of its grammar.
-#[tactic(auto, unfolding(crate::specs::Outline::outline_of))]
+#[tactic(auto, unfolding(crate::specs::auxiliary::Outline::outline_of))]
 fn outline_from(certificate: DataValue<'_>) -> Option<Outline<'_>>
     ensures { option_map outline_view result ≡ outline_of (value_view certificate.entry) }
 {
@@ -162,7 +162,7 @@ pub fn subject_of(certificate: &[u8]) -> Option<DataValue<'_>>
 }
 
 /// Whether one value at most is left.
-#[tactic(auto, unfolding(crate::specs::Outline::is_optional))]
+#[tactic(auto, unfolding(crate::specs::auxiliary::Outline::is_optional))]
 fn is_last(mut members: DataValues<'_>) -> bool
     ensures { result ≡ is_optional (values_view members.entry) }
 {
@@ -171,7 +171,7 @@ fn is_last(mut members: DataValues<'_>) -> bool
 }
 
 /// Whether a value is an AlgorithmIdentifier (RFC 5280 4.1.1.2): an object identifier, and one value more at most.
-#[tactic(auto, unfolding(crate::specs::Outline::algorithm_of))]
+#[tactic(auto, unfolding(crate::specs::auxiliary::Outline::algorithm_of))]
 fn algorithm_from(value: DataValue<'_>) -> Option<()>
     ensures { result ≡ algorithm_of (value_view value.entry) }
 {

@@ -1,7 +1,6 @@
 //! Texts that are sent to a session ahead of its answers to those before them.
 ghost use Rattle.std.specs.Prelude.{◌≡◌, ℕ, ◌<◌, ◌≤◌, List, [], ◌∷◌, map, length, IfOk, IfErr, OnErr, vec_len};
-ghost use Rattle.cms.specs.Ahead.{SendsAhead, ReceivesAhead};
-ghost use Rattle.cms.specs.Signer.{signed_by, count_after};
+ghost use Rattle.cms.specs.{Ahead.SendsAhead, Ahead.ReceivesAhead, Signer.signed_by, Signer.count_after};
 ghost use Rattle.cms.specs.declared.signer.SignerFault.TheVariants.{Failed};
 
 use crate::answer_room::AnswerRoom;

@@ -1,7 +1,6 @@
 //! Where parts stand in a certificate's octets.
 ghost use Rattle.std.specs.Prelude.{◌≡◌, ◌+◌, ◌≤◌, length, MatchOption, IfSome};
-ghost use Rattle.cms.specs.Certificate.{CertificateParts, IsCertificate};
-ghost use Rattle.cms.specs.Place.{ArePlaces};
+ghost use Rattle.cms.specs.{Certificate.CertificateParts, Certificate.IsCertificate, Place.ArePlaces};
 
 use crate::outline::outline_in;
 use der::{DataValue, DataValues, encodings_are_read};

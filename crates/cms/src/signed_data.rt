@@ -1,20 +1,18 @@
 //! The texts that are signed and handed out, one function for each of their types.
 ghost use Rattle.std.specs.Prelude.{◌≡◌, ◌≤◌, ◌++◌, [], length, IfOk, IfErr, OnOk};
 ghost use Rattle.der.specs.Node.{element};
-ghost use Rattle.cms.specs.Grammar.{joined};
+ghost use Rattle.cms.specs.{Grammar.joined, SignedData.token as text_of_token};
 ghost use Rattle.cms.specs.SignedData.{sha256_identifier, signing_certificate_v2, signed_attributes};
 ghost use Rattle.cms.specs.SignedData.{issuer_and_serial_number, encapsulated_content_info};
 ghost use Rattle.cms.specs.SignedData.{attribute_text as text_of_attributes, signer_info as info_of_signer};
 ghost use Rattle.cms.specs.SignedData.{content_info as info_of_content, signed_data as data_signed, certificates};
-ghost use Rattle.cms.specs.SignedData.{token as text_of_token};
 ghost use Rattle.cms.specs.declared.fault.CmsFault.TheVariants.{Memory};
 
 use crate::algorithm::Algorithm;
-use crate::encode::{append_element, element_of};
 use crate::fault::CmsFault;
 use crate::identity::Identity;
 use crate::tags::UNDER_ZERO;
-use der::Tag;
+use der::{Tag, append_element, element_of};
 use sha2::{Digest, Sha256};
 use std::alloc::{AllocError, Global};
 
@@ -48,6 +46,7 @@ fn append_attribute(
 }
 
 /// The digest as SigningCertificateV2 (RFC 5035 3).
+#[tactic(auto, using(crate::proofs::Texts::text_laws, crate::proofs::Texts::signing_certificate_v2_text))]
 fn signing_certificate(alloc: Global, identity: &Identity) -> Result<Vec<u8>, AllocError>
     ensures { IfOk result (λ octets. octets.items ≡ signing_certificate_v2 identity.now.certificate) }
 {
@@ -58,6 +57,7 @@ fn signing_certificate(alloc: Global, identity: &Identity) -> Result<Vec<u8>, Al
 }
 
 /// SignedAttributes (RFC 5652 5.3), one after the other.
+#[tactic(auto, using(crate::proofs::Members::grown_three, crate::proofs::Texts::attributes_text))]
 fn attributes(alloc: Global, identity: &Identity, tst: &[u8]) -> Result<Vec<u8>, AllocError>
     ensures { IfOk result (λ octets. octets.items ≡ joined (signed_attributes identity.now tst.now)) }
 {
@@ -77,6 +77,7 @@ fn attributes(alloc: Global, identity: &Identity, tst: &[u8]) -> Result<Vec<u8>,
 }
 
 /// SHA-256 as DigestAlgorithmIdentifier (RFC 5652 10.1.1).
+#[tactic(auto, using(crate::proofs::Texts::text_laws, crate::proofs::Texts::digest_algorithm_text))]
 fn digest_algorithm(alloc: Global) -> Result<Vec<u8>, AllocError>
     ensures { IfOk result (λ octets. octets.items ≡ sha256_identifier) }
 {
@@ -85,6 +86,7 @@ fn digest_algorithm(alloc: Global) -> Result<Vec<u8>, AllocError>
 }
 
 /// IssuerAndSerialNumber (RFC 5652 10.2.4).
+#[tactic(auto, using(crate::proofs::Texts::text_laws, crate::proofs::Members::grown_two, crate::proofs::Texts::issuer_and_serial_text))]
 fn issuer_and_serial(alloc: Global, identity: &Identity) -> Result<Vec<u8>, AllocError>
     ensures { IfOk result (λ octets. octets.items ≡ issuer_and_serial_number identity.now) }
 {
@@ -95,6 +97,7 @@ fn issuer_and_serial(alloc: Global, identity: &Identity) -> Result<Vec<u8>, Allo
 }
 
 /// SignerInfo (RFC 5652 5.3).
+#[tactic(auto, using(crate::proofs::Texts::text_laws, crate::proofs::Members::grown_six, crate::proofs::Texts::signer_info_text))]
 fn signer_info(
     alloc: Global,
     identity: &Identity,
@@ -118,6 +121,7 @@ fn signer_info(
 }
 
 /// EncapsulatedContentInfo (RFC 5652 5.2).
+#[tactic(auto, using(crate::proofs::Texts::text_laws, crate::proofs::Members::grown_two, crate::proofs::Texts::encapsulated_text))]
 fn encapsulated(alloc: Global, tst: &[u8]) -> Result<Vec<u8>, AllocError>
     ensures { IfOk result (λ octets. octets.items ≡ encapsulated_content_info tst.now) }
 {
@@ -129,6 +133,7 @@ fn encapsulated(alloc: Global, tst: &[u8]) -> Result<Vec<u8>, AllocError>
 }
 
 /// ContentInfo over signed data (RFC 5652 3).
+#[tactic(auto, using(crate::proofs::Texts::text_laws, crate::proofs::Members::grown_two, crate::proofs::Texts::content_info_text))]
 fn content_info(alloc: Global, content: &[u8]) -> Result<Vec<u8>, AllocError>
     ensures { IfOk result (λ octets. octets.items ≡ info_of_content content.now) }
 {
@@ -139,7 +144,7 @@ fn content_info(alloc: Global, content: &[u8]) -> Result<Vec<u8>, AllocError>
 }
 
 /// Appends the certificates of SignedData (RFC 5652 5.1): nothing where none is asked for.
-#[tactic(auto, using(crate::proofs::Texts::certificates_text, crate::proofs::Texts::no_certificates_text))]
+#[tactic(auto, using(crate::proofs::Texts::certificates_text, crate::proofs::Texts::no_certificates_text, crate::proofs::Texts::text_laws))]
 fn append_certificates(
     octets: &mut Vec<u8>,
     identity: &Identity,
@@ -154,6 +159,7 @@ fn append_certificates(
 }
 
 /// SignedData (RFC 5652 5.1).
+#[tactic(auto, using(crate::proofs::Texts::text_laws, crate::proofs::Members::grown_five, crate::proofs::Texts::signed_data_text))]
 fn signed_data(
     alloc: Global,
     identity: &Identity,
@@ -179,6 +185,7 @@ fn signed_data(
 
 /// What is signed: the signed attributes of a TSTInfo's token, under the tag of a SET (RFC 5652 5.4, RFC 3161 2.4.2,
 /// RFC 5816). `tst` is the TSTInfo's encoding. Refused only for want of memory, as `Memory`.
+#[tactic(auto, using(crate::proofs::Texts::attribute_text_text))]
 pub fn attribute_text(alloc: Global, identity: &Identity, tst: &[u8]) -> Result<Vec<u8>, CmsFault>
     ensures text { IfOk result (λ octets. octets.items ≡ text_of_attributes identity.now tst.now) }
     ensures memory { IfErr result (λ fault. fault ≡ Memory) }
@@ -188,8 +195,9 @@ pub fn attribute_text(alloc: Global, identity: &Identity, tst: &[u8]) -> Result<
 }
 
 /// A time-stamp token (RFC 3161 2.4.2, RFC 5652 5): the TSTInfo, signed under an algorithm, with all certificates of
-/// the identity, in ascending order, where they are asked for. `tst` is the TSTInfo's encoding, and the signature has 1 to 4,096 octets. Refused only for want of
-/// memory, as `Memory`.
+/// the identity, in ascending order, where they are asked for. `tst` is the TSTInfo's encoding, and the signature has 1
+/// to 4,096 octets. Refused only for want of memory, as `Memory`.
+#[tactic(auto, using(crate::proofs::Texts::token_text))]
 pub fn token(
     alloc: Global,
     identity: &Identity,

@@ -1,8 +1,7 @@
 //! Who signs.
 ghost use Rattle.std.specs.Prelude.{◌≡◌, ℕ, ◌≤◌, List, [], ◌∷◌, ◌++◌, map, length, Result, IfOk, vec_len, vec_capacity};
 ghost use Rattle.std.specs.List.{AllByRecursion};
-ghost use Rattle.cms.specs.declared.signer.SignerFault.{SignerFault as SpecFault};
-ghost use Rattle.cms.specs.declared.signer.SignerFault.TheVariants.{Memory};
+ghost use Rattle.cms.specs.declared.signer.SignerFault.{SignerFault as SpecFault, TheVariants.Memory};
 ghost use Rattle.cms.specs.Signer.{signed_by, count_after, count_after_each, SignsEach, IsSized};
 
 use crate::algorithm::Algorithm;

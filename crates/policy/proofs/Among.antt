@@ -1,9 +1,7 @@
 -- A value among those that elements stand for.
 use Rattle.std.proofs.Common.{◌≡◌, ℕ, ◌<◌, Bool, true, false, List, [], ◌∷◌, map, length, refl, sym, ◌∙◌, arith}
-use Rattle.std.specs.Prelude.{Contains, ◌↔◌, IsTrue}
+use Rattle.std.specs.{Prelude.Contains, Prelude.◌↔◌, Prelude.IsTrue, Bool.MatchBool, List.HoldsAt, List.AllWithin}
 use Rattle.std.proofs.lemmas.List.{length-map, get_or-map}
-use Rattle.std.specs.Bool.{MatchBool}
-use Rattle.std.specs.List.{HoldsAt, AllWithin}
 
 -- an element with a value, where the value is among those of all
 value_among : {A B : Type 0} (view : A → B) (xs : List A) (y : B)

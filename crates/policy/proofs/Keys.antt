@@ -1,9 +1,7 @@
 -- The keys of a table.
 use Rattle.std.proofs.Common.{◌≡◌, ℕ, List, [], ◌∷◌, map, refl, ap, String, Global, string_bytes, ◌&&◌}
-use Rattle.std.specs.List.{list_all}
-use Rattle.std.specs.Map.{keys_of}
-use Rattle.toml.specs.View.{members_view}
-use Rattle.toml.specs.declared.value.Value.{Value}
+use Rattle.std.specs.{List.list_all, Map.keys_of}
+use Rattle.toml.specs.{View.members_view, declared.value.Value.Value}
 use Rattle.policy.specs.Kinds.{is_among, has_only}
 
 pub has_only-keys : (known : List (List ℕ)) (es : List (String Global × Value))

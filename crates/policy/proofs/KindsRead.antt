@@ -2,13 +2,10 @@
 use Rattle.std.proofs.Common.{◌≡◌, ℕ, List, Some, None, Result, Ok, Err, refl, MatchResult}
 use Rattle.std.specs.Result.{result_ok}
 use Rattle.toml.specs.Data.{Data, as_str}
-use Rattle.der.specs.ObjectIdentifier.{IsOid, oid_text}
-use Rattle.hex.specs.Hex.{decode_sized}
-use Rattle.hex.specs.declared.error.FromHexError.{FromHexError}
+use Rattle.der.{specs.ObjectIdentifier.IsOid, specs.ObjectIdentifier.oid_text, proofs.OidOfTexts.oid_of_text-written}
+use Rattle.hex.specs.{Hex.decode_sized, declared.error.FromHexError.FromHexError}
 use Rattle.policy.specs.Kinds.{hash_in, oid_in}
-use Rattle.policy.specs.declared.fault.PolicyFault.TheVariants.{BadValue}
-use Rattle.policy.specs.declared.field.Field.{Field}
-use Rattle.der.proofs.OidOfTexts.{oid_of_text-written, oid_of_text-other}
+use Rattle.policy.specs.declared.{fault.PolicyFault.TheVariants.BadValue, field.Field.Field}
 
 -- a text that isn't 64 hexadecimal digits
 pub hash_in-refused : (field : Field) (d : Data) (text : List ℕ) → Some text ≡ as_str d
@@ -27,8 +24,3 @@ pub oid_in-read : (field : Field) (d : Data) (text oid : List ℕ) → Some text
     → text ≡ oid_text oid → oid_in field d ≡ Ok oid
 unfolding oid_in
 oid_in-read field d text oid is h written = rw (← is, written, oid_of_text-written oid h) refl
-
-pub oid_in-refused : (field : Field) (d : Data) (text : List ℕ) → Some text ≡ as_str d
-    → ((oid : List ℕ) → IsOid oid → text ≡ oid_text oid → ⊥) → oid_in field d ≡ Err (BadValue field)
-unfolding oid_in
-oid_in-refused field d text is other = rw (← is, oid_of_text-other text other) refl

@@ -1,10 +1,8 @@
 pub mod Among
 pub mod Searches
 pub mod Kept
-pub mod HashTable
 pub mod Keys
 pub mod KindsRead
 pub mod EntriesRead
-pub mod Steps
 pub mod SoundRecords
 pub mod Rows

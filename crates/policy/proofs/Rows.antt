@@ -1,14 +1,11 @@
 -- The definitions, computed on tables.
 use Rattle.std.proofs.Common.{◌≡◌, ℕ, pos, true, false, codes, List, [], ◌∷◌, refl, Some, None, Ok, Err}
-use Rattle.der.specs.ObjectIdentifier.{decimal, subidentifier_octets}
+use Rattle.der.specs.{ObjectIdentifier.decimal, ObjectIdentifier.subidentifier_octets, OidText.oid_of_text}
 use Rattle.toml.specs.Data.{Data, Items, no_items, item, Members, no_members, member, string, integer, array, table}
-use Rattle.policy.specs.HashAlgorithms.{hash_algorithms}
+use Rattle.policy.specs.{HashAlgorithms.hash_algorithms, Record.PolicyValue, Meaning.group_of, Meaning.policy_in}
 use Rattle.policy.specs.Kinds.{number_in, is_name, name_in, some_name_in, oid_in, new_name_in, new_oid_in, listed}
 use Rattle.policy.specs.Kinds.{values_in, names_in, tables_in, entry_in, array_in}
 use Rattle.policy.specs.Meaning.{counter_of, counter_in, algorithm_of, extension_of, tsa_policy_of, account_of}
-use Rattle.policy.specs.Meaning.{group_of, policy_in}
-use Rattle.der.specs.OidText.{oid_of_text}
-use Rattle.policy.specs.Record.{PolicyValue}
 use Rattle.policy.specs.declared.fault.PolicyFault.TheVariants.{BadValue, Duplicate, Missing, UnknownName}
 use Rattle.policy.specs.declared.field.Field.TheVariants as field
 

@@ -51,13 +51,3 @@ pub found_tells : {A B C : Type 0} (now : A → B) (view : B → C) (test : C �
     → option_map now o ≡ find (λ x. test (view x)) xs → is_some o ≡ list_any test (map view xs)
 found_tells now view test o xs e =
     sym (is_some_map now o) ∙ ap is_some e ∙ found_where_any (λ x. test (view x)) xs ∙ sym (any_value test view xs)
-
-found_passes_at : {A : Type 0} (test : A → Bool) (y : A) (ys : List A) (x : A) (b : Bool) → test y ≡ b
-    → (find test ys ≡ Some x → test x ≡ true) → find test (y ∷ ys) ≡ Some x → test x ≡ true
-found_passes_at test y ys x true e ih h = let same : y ≡ x = let k = rw e at h in cc in rw same at e
-found_passes_at test y ys x false e ih h = ih (rw e at h)
-
--- what a search finds passes the test
-pub found_passes : {A : Type 0} (test : A → Bool) (xs : List A) (x : A) → find test xs ≡ Some x → test x ≡ true
-found_passes test [] x h = cc h
-found_passes test (y ∷ ys) x h = found_passes_at test y ys x (test y) refl (found_passes test ys x) h

@@ -1,19 +1,13 @@
 -- Each record that a policy file means is sound.
 use Rattle.std.proofs.Common.{◌≡◌, ℕ, ◌≤◌, Bool, true, false, not, ◌&&◌, ◌||◌, List, [], ◌∷◌, ◌++◌, length, map, ◌+◌}
 use Rattle.std.proofs.Common.{◌/◌, ◌%◌, ◌==◌, codes, Option, Some, None, Result, Ok, Err, refl, ap, subst, ◌∙◌}
-use Rattle.std.proofs.Common.{eqb-true, arith}
-use Rattle.std.specs.List.{AllByRecursion, list_all, list_any}
-use Rattle.std.specs.Str.{bytes_eq}
+use Rattle.std.proofs.{Common.eqb-true, Common.arith, lemmas.List.map-append, lemmas.List.length-append}
+use Rattle.std.proofs.{lemmas.List.length-map, lemmas.Option.same_Some, lemmas.Bool.and_parts, lemmas.Bool.leb-true}
+use Rattle.std.specs.{List.AllByRecursion, List.list_all, List.list_any, Str.bytes_eq, Result.result_ok}
 use Rattle.std.specs.Prelude.{nat_le, if◌then◌else◌, IfSome}
-use Rattle.std.specs.Result.{result_ok}
-use Rattle.std.proofs.lemmas.Option.{same_Some}
-use Rattle.std.proofs.lemmas.Bool.{and_parts, leb-true}
-use Rattle.std.proofs.lemmas.List.{map-append, length-append, length-map}
-use Rattle.der.specs.ObjectIdentifier.{IsOid, oid_content}
-use Rattle.hex.specs.Hex.{decode_pairs, decode_sized}
-use Rattle.hex.specs.declared.error.FromHexError.{FromHexError}
-use Rattle.hex.specs.declared.error.FromHexError.TheVariants.{OddLength, InvalidStringLength}
-use Rattle.hex.proofs.HexLemmas.{decode_pairs-ok}
+use Rattle.der.specs.{ObjectIdentifier.IsOid, ObjectIdentifier.oid_content, OidText.oid_of_text}
+use Rattle.hex.{specs.Hex.decode_pairs, specs.Hex.decode_sized, proofs.HexLemmas.decode_pairs-ok}
+use Rattle.hex.specs.declared.error.FromHexError.{FromHexError, TheVariants.OddLength, TheVariants.InvalidStringLength}
 use Rattle.toml.specs.Data.{Data, Items, no_items, item, Members, get_member, as_table, as_integer, as_str}
 use Rattle.toml.specs.Parse.{parse_document}
 use Rattle.policy.specs.Kinds.{◌>>=◌, test, check, given, natural_of, wanted, optional, is_among, is_hash, is_name}
@@ -23,16 +17,13 @@ use Rattle.policy.specs.Kinds.{entry_in, tables_in, are_tables, count_of, array_
 use Rattle.policy.specs.Meaning.{lengths_of, is_none_or_among, counter_of, counter_in, algorithm_of, algorithm_in}
 use Rattle.policy.specs.Meaning.{extension_of, extension_in, tsa_policy_of, tsa_policy_in, account_of, account_in}
 use Rattle.policy.specs.Meaning.{group_of, group_in, policy_in, document_in, meaning_of}
-use Rattle.der.specs.OidText.{oid_of_text}
-use Rattle.policy.specs.Record.{AlgorithmValue, ExtensionValue, TsaPolicyValue, AccountValue, GroupValue}
-use Rattle.policy.specs.Record.{CounterValue, PolicyValue}
+use Rattle.policy.specs.Record.{AlgorithmValue, ExtensionValue, TsaPolicyValue, AccountValue, GroupValue, CounterValue}
+use Rattle.policy.specs.{Record.PolicyValue, declared.fault.PolicyFault.PolicyFault, declared.field.Field.Field}
 use Rattle.policy.specs.Sound.{are_apart, same_hash, AreListed, IsCounter, IsAlgorithm, IsExtension, IsTsaPolicy}
 use Rattle.policy.specs.Sound.{IsAccount, IsGroup, AreEntries, AreAccounts, AreGroups, IsSound}
-use Rattle.policy.specs.declared.fault.PolicyFault.{PolicyFault}
 use Rattle.policy.specs.declared.fault.PolicyFault.TheVariants.{BadValue, Duplicate, UnknownName, TooMany}
-use Rattle.policy.specs.declared.field.Field.{Field}
-use Rattle.policy.specs.declared.field.Field.TheVariants as field
 use Rattle.der.proofs.OidOfTexts.{oid_of_text-some}
+use Rattle.policy.specs.declared.field.Field.TheVariants as field
 
 -- ---- steps
 
@@ -87,6 +78,11 @@ in_range name low high d n e =
     let t = tested (nat_le low b.value && nat_le b.value high) (BadValue name) b.value n b.after in
     let p = and_parts (nat_le low b.value) (nat_le b.value high) t.0 in
     subst (λ k. (low ≤ k) × (k ≤ high)) t.1 (leb-true low b.value p.0, leb-true b.value high p.1)
+
+wanted_in_range : (name : Field) (low high : ℕ) (o : Option Data) (n : ℕ)
+    → wanted name (number_in name low high) o ≡ Ok n → (low ≤ n) × (n ≤ high)
+wanted_in_range name low high =
+    from_wanted (λ n. (low ≤ n) × (n ≤ high)) name (number_in name low high) (in_range name low high)
 
 named : (name : Field) (d : Data) (x : List ℕ) → name_in name d ≡ Ok x → is_name x ≡ true
 unfolding name_in
@@ -190,6 +186,11 @@ are_listed name least existing d x e =
       distinct = (tested (are_distinct b.value) (Duplicate name) tt different.value different.is).0;
       exist = (tested (list_all (is_among existing) b.value) (UnknownName name) tt c.value different.after).0;
     })
+
+wanted_listed : (name : Field) (existing : List (List ℕ)) (o : Option Data) (x : List (List ℕ))
+    → wanted name (names_in name 1 existing) o ≡ Ok x → AreListed 1 existing x
+wanted_listed name existing =
+    from_wanted (AreListed 1 existing) name (names_in name 1 existing) (are_listed name 1 existing)
 
 -- ---- entries
 
@@ -303,11 +304,8 @@ algorithms_more earlier ms entry e are =
     (get_member (codes "length") ms)) _ entry oid.after in
     let new = new_named field.AlgorithmName (map (λ e. e.name) earlier) ms name.value name.is in
     let new_oid = new_identified field.AlgorithmOid (map (λ e. oid_content e.oid) earlier) ms oid.value oid.is in
-    let range = from_wanted (λ n. ((lengths_of (oid_content oid.value)).0 ≤ n)
-    × (n ≤ (lengths_of (oid_content oid.value)).1)) field.AlgorithmLength
-    (number_in field.AlgorithmLength (lengths_of (oid_content oid.value)).0 (lengths_of (oid_content oid.value)).1)
-    (in_range field.AlgorithmLength (lengths_of (oid_content oid.value)).0 (lengths_of (oid_content oid.value)).1)
-    (get_member (codes "length") ms) size.value size.is in
+    let range = wanted_in_range field.AlgorithmLength (lengths_of (oid_content oid.value)).0
+    (lengths_of (oid_content oid.value)).1 (get_member (codes "length") ms) size.value size.is in
     subst (λ k. AreEntries (λ e. e.name) (λ e. oid_content e.oid) IsAlgorithm (earlier ++ k ∷ []))
     (same_Ok (record { name = name.value; oid = oid.value; length = size.value }) entry size.after)
     (entries_more (λ e. e.name) (λ e. oid_content e.oid) IsAlgorithm earlier
@@ -327,9 +325,8 @@ extensions_more earlier ms entry e are =
     (get_member (codes "max_length") ms)) _ entry oid.after in
     let new = new_named field.ExtensionName (map (λ e. e.name) earlier) ms name.value name.is in
     let new_oid = new_identified field.ExtensionOid (map (λ e. oid_content e.oid) earlier) ms oid.value oid.is in
-    let range = from_wanted (λ n. (0 ≤ n) × (n ≤ 4096)) field.ExtensionMaxLength
-    (number_in field.ExtensionMaxLength 0 4096) (in_range field.ExtensionMaxLength 0 4096)
-    (get_member (codes "max_length") ms) size.value size.is in
+    let range = wanted_in_range field.ExtensionMaxLength 0 4096 (get_member (codes "max_length") ms) size.value size.is
+    in
     subst (λ k. AreEntries (λ e. e.name) (λ e. oid_content e.oid) IsExtension (earlier ++ k ∷ []))
     (same_Ok (record { name = name.value; oid = oid.value; max_length = size.value }) entry size.after)
     (entries_more (λ e. e.name) (λ e. oid_content e.oid) IsExtension earlier
@@ -380,9 +377,8 @@ tsa_policies_more algorithm_names extension_names earlier ms entry e are =
     (record {
       name = new.name;
       oid = new_oid.oid;
-      algorithms = from_wanted (AreListed 1 algorithm_names) field.PolicyAlgorithms
-          (names_in field.PolicyAlgorithms 1 algorithm_names) (are_listed field.PolicyAlgorithms 1 algorithm_names)
-          (get_member (codes "algorithms") ms) algorithms.value algorithms.is;
+      algorithms = wanted_listed field.PolicyAlgorithms algorithm_names (get_member (codes "algorithms") ms)
+          algorithms.value algorithms.is;
       extensions = from_optional (AreListed 0 extension_names) [] (names_in field.PolicyExtensions 0 extension_names)
           (no_names extension_names) (are_listed field.PolicyExtensions 0 extension_names)
           (get_member (codes "extensions") ms) extensions.value extensions.is;
@@ -420,9 +416,8 @@ accounts_more policy_names earlier ms entry e are =
       policies = policies.value;
       daily_quota = quota.value;
     } in
-    let range = from_wanted (λ n. (0 ≤ n) × (n ≤ 1000000000)) field.AccountDailyQuota
-    (number_in field.AccountDailyQuota 0 1000000000) (in_range field.AccountDailyQuota 0 1000000000)
-    (get_member (codes "daily_quota") ms) quota.value quota.is in
+    let range = wanted_in_range field.AccountDailyQuota 0 1000000000 (get_member (codes "daily_quota") ms) quota.value
+    quota.is in
     subst (λ k. AreAccounts policy_names (earlier ++ k ∷ [])) (same_Ok account entry quota.after) (record {
       names = apart_with bytes_eq (λ e. e.name) earlier account are.names new.fresh_one;
       hashes = apart_with same_hash (λ e. e.key_sha256) earlier account are.hashes
@@ -437,9 +432,8 @@ accounts_more policy_names earlier ms entry e are =
             (new_hash_in field.AccountKeySha256 (map (λ e. e.key_sha256) earlier)) tt
             (key_hashed field.AccountKeySha256 (map (λ e. e.key_sha256) earlier))
             (get_member (codes "key_sha256") ms) key.value key.is;
-        policies = from_wanted (AreListed 1 policy_names) field.AccountPolicies
-            (names_in field.AccountPolicies 1 policy_names) (are_listed field.AccountPolicies 1 policy_names)
-            (get_member (codes "policies") ms) policies.value policies.is;
+        policies = wanted_listed field.AccountPolicies policy_names (get_member (codes "policies") ms) policies.value
+            policies.is;
         daily_quota = range.1;
       });
     })
@@ -459,9 +453,8 @@ groups_more account_names earlier ms entry e are =
       names = apart_with bytes_eq (λ e. e.name) earlier group are.names new.fresh_one;
       each = all_more (IsGroup account_names) earlier group are.each (record {
         name = new.name;
-        members = from_wanted (AreListed 1 account_names) field.GroupMembers
-            (names_in field.GroupMembers 1 account_names) (are_listed field.GroupMembers 1 account_names)
-            (get_member (codes "members") ms) members.value members.is;
+        members = wanted_listed field.GroupMembers account_names (get_member (codes "members") ms) members.value
+            members.is;
       });
     })
 
@@ -485,18 +478,14 @@ is_counter d counter e =
     _ counter age.after in
     let tsa_name = bound (optional false (truth_in field.CounterTsaName) (get_member (codes "tsa_name") t.value)) _
     counter anonymous.after in
-    let accuracy_range = from_wanted (λ n. (1 ≤ n) × (n ≤ 1000000)) field.CounterAccuracyUs
-    (number_in field.CounterAccuracyUs 1 1000000) (in_range field.CounterAccuracyUs 1 1000000)
-    (get_member (codes "accuracy_us") t.value) accuracy.value accuracy.is in
-    let digits_range = from_wanted (λ n. (0 ≤ n) × (n ≤ 6)) field.CounterFractionDigits
-    (number_in field.CounterFractionDigits 0 6) (in_range field.CounterFractionDigits 0 6)
-    (get_member (codes "fraction_digits") t.value) digits.value digits.is in
-    let drift_range = from_wanted (λ n. (0 ≤ n) × (n ≤ 1000000)) field.CounterDriftPpb
-    (number_in field.CounterDriftPpb 0 1000000) (in_range field.CounterDriftPpb 0 1000000)
-    (get_member (codes "drift_ppb") t.value) drift.value drift.is in
-    let age_range = from_wanted (λ n. (1 ≤ n) × (n ≤ 31536000000000)) field.CounterMaxAgeUs
-    (number_in field.CounterMaxAgeUs 1 31536000000000) (in_range field.CounterMaxAgeUs 1 31536000000000)
-    (get_member (codes "max_age_us") t.value) age.value age.is in
+    let accuracy_range = wanted_in_range field.CounterAccuracyUs 1 1000000 (get_member (codes "accuracy_us") t.value)
+    accuracy.value accuracy.is in
+    let digits_range = wanted_in_range field.CounterFractionDigits 0 6 (get_member (codes "fraction_digits") t.value)
+    digits.value digits.is in
+    let drift_range = wanted_in_range field.CounterDriftPpb 0 1000000 (get_member (codes "drift_ppb") t.value)
+    drift.value drift.is in
+    let age_range = wanted_in_range field.CounterMaxAgeUs 1 31536000000000 (get_member (codes "max_age_us") t.value)
+    age.value age.is in
     subst IsCounter (same_Ok (record {
       accuracy_us = accuracy.value;
       fraction_digits = digits.value;

@@ -1,8 +1,7 @@
 -- What a reader that may want memory answers.
 use Rattle.std.specs.Prelude.{◌≡◌, Result, Ok, Err}
-use Rattle.policy.specs.declared.fault.PolicyFault.{PolicyFault}
+use Rattle.policy.specs.declared.fault.PolicyFault.{PolicyFault, TheVariants.TooMany, TheVariants.Memory}
 use Rattle.policy.specs.declared.fault.PolicyFault.TheVariants.{Toml, Missing, BadValue, Duplicate, UnknownName}
-use Rattle.policy.specs.declared.fault.PolicyFault.TheVariants.{TooMany, Memory}
 
 -- a refusal is the meaning's first fault, or memory ran out
 abbrev pub IsFirstFault : {Y : Type 0} → PolicyFault → Result Y PolicyFault → Type 0

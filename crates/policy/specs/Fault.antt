@@ -1,8 +1,7 @@
 -- The numbers of the refusals.
 use Rattle.std.specs.Prelude.{ℕ}
-use Rattle.policy.specs.declared.fault.PolicyFault.{PolicyFault}
+use Rattle.policy.specs.declared.fault.PolicyFault.{PolicyFault, TheVariants.TooMany, TheVariants.Memory}
 use Rattle.policy.specs.declared.fault.PolicyFault.TheVariants.{Toml, Missing, BadValue, Duplicate, UnknownName}
-use Rattle.policy.specs.declared.fault.PolicyFault.TheVariants.{TooMany, Memory}
 
 abbrev pub number_of : PolicyFault → ℕ
 number_of Toml = 1

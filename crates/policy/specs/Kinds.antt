@@ -1,18 +1,13 @@
 -- The kinds of keys of a policy file, and their values.
 use Rattle.std.specs.Prelude.{ℕ, ◌+◌, ℤ, pos, negsuc, ◌==◌, ◌||◌, ◌&&◌, nat_le, not, Bool, true, false, if◌then◌else◌}
 use Rattle.std.specs.Prelude.{List, [], ◌∷◌, ◌++◌, length, codes, Option, Some, None, Result, Ok, Err}
-use Rattle.std.specs.List.{list_all, list_any}
-use Rattle.std.specs.Result.{result_ok}
-use Rattle.std.specs.Str.{bytes_eq}
-use Rattle.der.specs.ObjectIdentifier.{oid_content}
+use Rattle.std.specs.{List.list_all, List.list_any, Result.result_ok, Str.bytes_eq}
+use Rattle.der.specs.{ObjectIdentifier.oid_content, OidText.oid_of_text}
 use Rattle.hex.specs.Hex.{decode_sized}
 use Rattle.toml.specs.Data.{Data, Items, no_items, item, Members, no_members, member, get_member, as_str, as_integer}
 use Rattle.toml.specs.Data.{as_bool, as_array, as_table}
-use Rattle.der.specs.OidText.{oid_of_text}
-use Rattle.policy.specs.declared.fault.PolicyFault.{PolicyFault}
+use Rattle.policy.specs.declared.{fault.PolicyFault.PolicyFault, field.Field.Field, field.Field.TheVariants.Key}
 use Rattle.policy.specs.declared.fault.PolicyFault.TheVariants.{Missing, BadValue, Duplicate, UnknownName, TooMany}
-use Rattle.policy.specs.declared.field.Field.{Field}
-use Rattle.policy.specs.declared.field.Field.TheVariants.{Key}
 
 -- the second step, where the first found no fault
 infixl 10 ◌>>=◌

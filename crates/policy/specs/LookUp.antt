@@ -1,8 +1,7 @@
 -- What look-ups find in the record that a policy file means. Object identifiers are asked for by their contents octets
 -- (X.690 8.19), and keys by their SHA-256.
 use Rattle.std.specs.Prelude.{ℕ, Bool, List, [], ◌∷◌, map, Option, None, option_and_then}
-use Rattle.std.specs.List.{filter, find}
-use Rattle.std.specs.Str.{bytes_eq}
+use Rattle.std.specs.{List.filter, List.find, Str.bytes_eq}
 use Rattle.der.specs.ObjectIdentifier.{oid_content}
 use Rattle.sha2.specs.Sha256.{sha256}
 use Rattle.policy.specs.Kinds.{is_among, is_hash}

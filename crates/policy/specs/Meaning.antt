@@ -1,17 +1,13 @@
 -- The meaning of a policy file: the record, or the first fault.
 use Rattle.std.specs.Prelude.{ℕ, Bool, true, false, List, [], ◌∷◌, map, codes, Option, Some, None, Result, Ok, Err}
-use Rattle.std.specs.List.{find}
-use Rattle.std.specs.Str.{bytes_eq}
+use Rattle.std.specs.{List.find, Str.bytes_eq}
 use Rattle.der.specs.ObjectIdentifier.{oid_content}
-use Rattle.toml.specs.Data.{Data, Members, get_member, as_table}
-use Rattle.toml.specs.Parse.{parse_document}
-use Rattle.policy.specs.HashAlgorithms.{HashAlgorithmValue, hash_algorithms}
+use Rattle.toml.specs.{Data.Data, Data.Members, Data.get_member, Data.as_table, Parse.parse_document}
+use Rattle.policy.specs.{HashAlgorithms.HashAlgorithmValue, HashAlgorithms.hash_algorithms, Record.PolicyValue}
 use Rattle.policy.specs.Kinds.{◌>>=◌, test, given, wanted, optional, is_among, only, truth_in, number_in, new_name_in}
 use Rattle.policy.specs.Kinds.{new_oid_in, new_hash_in, some_name_in, names_in, array_in}
-use Rattle.policy.specs.Record.{AlgorithmValue, ExtensionValue, TsaPolicyValue, AccountValue, GroupValue}
-use Rattle.policy.specs.Record.{CounterValue, PolicyValue}
-use Rattle.policy.specs.declared.fault.PolicyFault.{PolicyFault}
-use Rattle.policy.specs.declared.fault.PolicyFault.TheVariants.{Toml, UnknownName}
+use Rattle.policy.specs.Record.{AlgorithmValue, ExtensionValue, TsaPolicyValue, AccountValue, GroupValue, CounterValue}
+use Rattle.policy.specs.declared.fault.PolicyFault.{PolicyFault, TheVariants.Toml, TheVariants.UnknownName}
 use Rattle.policy.specs.declared.field.Field.TheVariants as field
 
 -- least and greatest length: those of a hash algorithm whose hashes have one length, and else 16 to 64 octets

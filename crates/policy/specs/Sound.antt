@@ -1,13 +1,10 @@
 -- What holds of each record that a policy file means.
 use Rattle.std.specs.Prelude.{◌≡◌, ℕ, ◌≤◌, Bool, true, false, not, ◌&&◌, List, [], ◌∷◌, length, map, Option, Some, None}
-use Rattle.std.specs.Prelude.{IfSome}
-use Rattle.std.specs.List.{AllByRecursion, list_all, list_any}
-use Rattle.std.specs.Str.{bytes_eq}
+use Rattle.std.specs.{Prelude.IfSome, Str.bytes_eq, List.AllByRecursion, List.list_all, List.list_any}
 use Rattle.der.specs.ObjectIdentifier.{IsOid, oid_content}
 use Rattle.policy.specs.Kinds.{is_among, is_hash, is_name, are_distinct}
-use Rattle.policy.specs.Meaning.{lengths_of, is_none_or_among}
-use Rattle.policy.specs.Record.{AlgorithmValue, ExtensionValue, TsaPolicyValue, AccountValue, GroupValue}
-use Rattle.policy.specs.Record.{CounterValue, PolicyValue}
+use Rattle.policy.specs.{Meaning.lengths_of, Meaning.is_none_or_among, Record.PolicyValue}
+use Rattle.policy.specs.Record.{AlgorithmValue, ExtensionValue, TsaPolicyValue, AccountValue, GroupValue, CounterValue}
 
 -- no two are the same
 abbrev pub are_apart : {A : Type 0} → (A → A → Bool) → List A → Bool

@@ -1,15 +1,10 @@
 -- What the types stand for.
 use Rattle.std.specs.Prelude.{ℕ, List, option_map, map, String, Vec, string_bytes}
 use Rattle.std.specs.declared.alloc.Global.{Global}
-use Rattle.policy.specs.Record.{AlgorithmValue, ExtensionValue, TsaPolicyValue, AccountValue, GroupValue}
-use Rattle.policy.specs.Record.{CounterValue, PolicyValue}
-use Rattle.policy.specs.declared.entries.Algorithm.{Algorithm}
-use Rattle.policy.specs.declared.entries.Extension.{Extension}
-use Rattle.policy.specs.declared.entries.TsaPolicy.{TsaPolicy}
-use Rattle.policy.specs.declared.entries.Account.{Account}
-use Rattle.policy.specs.declared.entries.Group.{Group}
-use Rattle.policy.specs.declared.entries.Counter.{Counter}
-use Rattle.policy.specs.declared.policy.Policy.{Policy}
+use Rattle.policy.specs.Record.{AlgorithmValue, ExtensionValue, TsaPolicyValue, AccountValue, GroupValue, CounterValue}
+use Rattle.policy.specs.Record.{PolicyValue}
+use Rattle.policy.specs.declared.entries.{Algorithm.Algorithm, Counter.Counter, Account.Account, Group.Group}
+use Rattle.policy.specs.declared.{entries.Extension.Extension, entries.TsaPolicy.TsaPolicy, policy.Policy.Policy}
 
 abbrev pub names_view : Vec (String Global) Global → List (List ℕ)
 names_view names = map string_bytes names.items

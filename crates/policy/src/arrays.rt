@@ -1,16 +1,13 @@
 //! The tables of a policy file: `counter`, and the entries of the five arrays.
-ghost use Rattle.std.specs.Prelude.{◌≡◌, ◌≤◌, [], None, map, codes, string_bytes, length};
-ghost use Rattle.der.specs.ObjectIdentifier.{oid_content};
-ghost use Rattle.toml.specs.Data.{get_member, as_table};
-ghost use Rattle.toml.specs.View.{view, items_view, table_view};
-ghost use Rattle.policy.specs.Answers.{AnswersMeaning};
+ghost use Rattle.std.specs.Prelude.{◌≡◌, ◌≤◌, List, [], None, Result, map, codes, string_bytes, length};
+ghost use Rattle.toml.specs.{Data.Members, Data.get_member, Data.as_table, View.view, View.items_view, View.table_view};
+ghost use Rattle.policy.specs.{Answers.AnswersMeaning, Kinds.array_in, View.group_view, Meaning.account_of};
+ghost use Rattle.policy.specs.{Meaning.account_in, Meaning.group_in};
+ghost use Rattle.policy.specs.declared.fault.PolicyFault.{PolicyFault as SpecFault};
 ghost use Rattle.policy.specs.Kinds.{given, optional, new_hash_in, are_tables, tables_in, entry_in, entries_after};
-ghost use Rattle.policy.specs.Kinds.{array_in};
-ghost use Rattle.policy.specs.Meaning.{lengths_of, counter_of, counter_in, algorithm_of, algorithm_in, extension_of};
-ghost use Rattle.policy.specs.Meaning.{extension_in, tsa_policy_of, tsa_policy_in, account_of, account_in, group_of};
-ghost use Rattle.policy.specs.Meaning.{group_in};
+ghost use Rattle.policy.specs.Meaning.{lengths_of, counter_of, counter_in, algorithm_in, extension_in, tsa_policy_in};
+ghost use Rattle.policy.specs.Record.{AlgorithmValue, ExtensionValue, TsaPolicyValue, AccountValue, GroupValue};
 ghost use Rattle.policy.specs.View.{counter_view, algorithm_view, extension_view, tsa_policy_view, account_view};
-ghost use Rattle.policy.specs.View.{group_view};
 
 use crate::entries::{Account, Algorithm, Counter, Extension, Group, TsaPolicy};
 use crate::fault::PolicyFault;
@@ -23,6 +20,27 @@ use crate::parser::{
 };
 use std::alloc::Global;
 use toml::{Table, Value};
+
+/// What stands in one of the arrays. An entry may name entries of the arrays above, which are known.
+pub(crate) trait Entry: Drop {
+    type Known;
+
+    ghost Meant: { Type 0 };
+
+    ghost seen: { Self → Meant };
+
+    // what a table means beside earlier entries
+    ghost meaning: { Self.Known → List Meant → Members → Result Meant SpecFault };
+
+    /// The entry that a table means.
+    fn read(
+        alloc: Global,
+        known: &Self::Known,
+        earlier: &[Self],
+        table: &Table,
+    ) -> Result<Self, PolicyFault>
+        ensures { AnswersMeaning seen result (meaning known.now (map seen earlier.now) (table_view table.now)) };
+}
 
 /// The table `counter`.
 #[tactic(auto, unfolding(crate::specs::Meaning::counter_in))]
@@ -89,82 +107,109 @@ fn lengths(content: &[u8]) -> (u64, u64)
     }
 }
 
-#[tactic(auto, unfolding(crate::specs::Meaning::algorithm_of))]
-fn algorithm(alloc: Global, earlier: &[Algorithm], table: &Table) -> Result<Algorithm, PolicyFault>
-    ensures { AnswersMeaning algorithm_view result
-        (algorithm_of (map (λ e. string_bytes e.name) earlier.now) (map (λ e. oid_content e.oid) earlier.now)
-        (table_view table.now)) }
-{
-    only(table, &["name", "oid", "length"])?;
-    let name = new_name(alloc, table, Field::AlgorithmName, earlier)?;
-    let oid = new_oid(alloc, table, Field::AlgorithmOid, earlier)?;
-    let (low, high) = lengths(oid.content());
-    let length = number(table, "length", Field::AlgorithmLength, low, high)?;
-    Ok(Algorithm {
-        name,
-        oid,
-        length: length as u8,
-    })
+impl Entry for Algorithm {
+    type Known = ();
+
+    ghost Meant = { AlgorithmValue };
+
+    ghost seen = { algorithm_view };
+
+    ghost meaning = { λ _. algorithm_in };
+
+    #[tactic(auto, unfolding(crate::specs::Meaning::algorithm_of), using(crate::proofs::EntriesRead::entry_values))]
+    fn read(
+        alloc: Global,
+        _known: &(),
+        earlier: &[Algorithm],
+        table: &Table,
+    ) -> Result<Algorithm, PolicyFault> {
+        only(table, &["name", "oid", "length"])?;
+        let name = new_name(alloc, table, Field::AlgorithmName, earlier)?;
+        let oid = new_oid(alloc, table, Field::AlgorithmOid, earlier)?;
+        let (low, high) = lengths(oid.content());
+        let length = number(table, "length", Field::AlgorithmLength, low, high)?;
+        Ok(Algorithm {
+            name,
+            oid,
+            length: length as u8,
+        })
+    }
 }
 
-#[tactic(auto, unfolding(crate::specs::Meaning::extension_of))]
-fn extension(alloc: Global, earlier: &[Extension], table: &Table) -> Result<Extension, PolicyFault>
-    ensures { AnswersMeaning extension_view result
-        (extension_of (map (λ e. string_bytes e.name) earlier.now) (map (λ e. oid_content e.oid) earlier.now)
-        (table_view table.now)) }
-{
-    only(table, &["name", "oid", "max_length"])?;
-    let name = new_name(alloc, table, Field::ExtensionName, earlier)?;
-    let oid = new_oid(alloc, table, Field::ExtensionOid, earlier)?;
-    let max_length = number(table, "max_length", Field::ExtensionMaxLength, 0, 4_096)?;
-    Ok(Extension {
-        name,
-        oid,
-        max_length: max_length as u16,
-    })
+impl Entry for Extension {
+    type Known = ();
+
+    ghost Meant = { ExtensionValue };
+
+    ghost seen = { extension_view };
+
+    ghost meaning = { λ _. extension_in };
+
+    #[tactic(auto, unfolding(crate::specs::Meaning::extension_of), using(crate::proofs::EntriesRead::entry_values))]
+    fn read(
+        alloc: Global,
+        _known: &(),
+        earlier: &[Extension],
+        table: &Table,
+    ) -> Result<Extension, PolicyFault> {
+        only(table, &["name", "oid", "max_length"])?;
+        let name = new_name(alloc, table, Field::ExtensionName, earlier)?;
+        let oid = new_oid(alloc, table, Field::ExtensionOid, earlier)?;
+        let max_length = number(table, "max_length", Field::ExtensionMaxLength, 0, 4_096)?;
+        Ok(Extension {
+            name,
+            oid,
+            max_length: max_length as u16,
+        })
+    }
 }
 
-#[tactic(auto, unfolding(crate::specs::Meaning::tsa_policy_of))]
-fn tsa_policy(
-    alloc: Global,
-    algorithms: &[Algorithm],
-    extensions: &[Extension],
-    earlier: &[TsaPolicy],
-    table: &Table,
-) -> Result<TsaPolicy, PolicyFault>
-    ensures { AnswersMeaning tsa_policy_view result
-        (tsa_policy_of (map (λ e. string_bytes e.name) algorithms.now) (map (λ e. string_bytes e.name) extensions.now)
-        (map (λ e. string_bytes e.name) earlier.now) (map (λ e. oid_content e.oid) earlier.now)
-        (table_view table.now)) }
-{
-    only(
-        table,
-        &["name", "oid", "algorithms", "extensions", "certificate"],
-    )?;
-    let name = new_name(alloc, table, Field::PolicyName, earlier)?;
-    let oid = new_oid(alloc, table, Field::PolicyOid, earlier)?;
-    let algorithms = some_names(
-        alloc,
-        table,
-        "algorithms",
-        Field::PolicyAlgorithms,
-        algorithms,
-    )?;
-    let extensions = optional_names(
-        alloc,
-        table,
-        "extensions",
-        Field::PolicyExtensions,
-        extensions,
-    )?;
-    let certificate = optional_truth(table, "certificate", Field::PolicyCertificate, true)?;
-    Ok(TsaPolicy {
-        name,
-        oid,
-        algorithms,
-        extensions,
-        certificate,
-    })
+impl Entry for TsaPolicy {
+    type Known = (Vec<Algorithm>, Vec<Extension>);
+
+    ghost Meant = { TsaPolicyValue };
+
+    ghost seen = { tsa_policy_view };
+
+    ghost meaning = { λ known. tsa_policy_in (map (λ e. string_bytes e.name) known.0.items)
+        (map (λ e. string_bytes e.name) known.1.items) };
+
+    #[tactic(auto, unfolding(crate::specs::Meaning::tsa_policy_of), using(crate::proofs::EntriesRead::entry_values))]
+    fn read(
+        alloc: Global,
+        known: &(Vec<Algorithm>, Vec<Extension>),
+        earlier: &[TsaPolicy],
+        table: &Table,
+    ) -> Result<TsaPolicy, PolicyFault> {
+        only(
+            table,
+            &["name", "oid", "algorithms", "extensions", "certificate"],
+        )?;
+        let name = new_name(alloc, table, Field::PolicyName, earlier)?;
+        let oid = new_oid(alloc, table, Field::PolicyOid, earlier)?;
+        let algorithms = some_names(
+            alloc,
+            table,
+            "algorithms",
+            Field::PolicyAlgorithms,
+            &known.0,
+        )?;
+        let extensions = optional_names(
+            alloc,
+            table,
+            "extensions",
+            Field::PolicyExtensions,
+            &known.1,
+        )?;
+        let certificate = optional_truth(table, "certificate", Field::PolicyCertificate, true)?;
+        Ok(TsaPolicy {
+            name,
+            oid,
+            algorithms,
+            extensions,
+            certificate,
+        })
+    }
 }
 
 #[tactic(auto, unfolding(crate::specs::Kinds::new_hash_in))]
@@ -233,21 +278,47 @@ fn account(
     })
 }
 
-#[tactic(auto, unfolding(crate::specs::Meaning::group_of))]
-fn group(
-    alloc: Global,
-    accounts: &[Account],
-    earlier: &[Group],
-    table: &Table,
-) -> Result<Group, PolicyFault>
-    ensures { AnswersMeaning group_view result
-        (group_of (map (λ e. string_bytes e.name) accounts.now) (map (λ e. string_bytes e.name) earlier.now)
-        (table_view table.now)) }
-{
-    only(table, &["name", "members"])?;
-    let name = new_name(alloc, table, Field::GroupName, earlier)?;
-    let members = some_names(alloc, table, "members", Field::GroupMembers, accounts)?;
-    Ok(Group { name, members })
+impl Entry for Account {
+    type Known = Vec<TsaPolicy>;
+
+    ghost Meant = { AccountValue };
+
+    ghost seen = { account_view };
+
+    ghost meaning = { λ policies. account_in (map (λ e. string_bytes e.name) policies.items) };
+
+    #[tactic(auto, using(crate::proofs::EntriesRead::entry_values))]
+    fn read(
+        alloc: Global,
+        policies: &Vec<TsaPolicy>,
+        earlier: &[Account],
+        table: &Table,
+    ) -> Result<Account, PolicyFault> {
+        account(alloc, policies, earlier, table)
+    }
+}
+
+impl Entry for Group {
+    type Known = Vec<Account>;
+
+    ghost Meant = { GroupValue };
+
+    ghost seen = { group_view };
+
+    ghost meaning = { λ accounts. group_in (map (λ e. string_bytes e.name) accounts.items) };
+
+    #[tactic(auto, unfolding(crate::specs::Meaning::group_of), using(crate::proofs::EntriesRead::entry_values))]
+    fn read(
+        alloc: Global,
+        accounts: &Vec<Account>,
+        earlier: &[Group],
+        table: &Table,
+    ) -> Result<Group, PolicyFault> {
+        only(table, &["name", "members"])?;
+        let name = new_name(alloc, table, Field::GroupName, earlier)?;
+        let members = some_names(alloc, table, "members", Field::GroupMembers, accounts)?;
+        Ok(Group { name, members })
+    }
 }
 
 /// Whether each value is a table.
@@ -287,234 +358,56 @@ fn table_of<'v>(field: Field, value: &'v Value) -> Result<&'v Table, PolicyFault
     }
 }
 
-#[tactic(auto, unfolding(crate::specs::Kinds::entry_in), using(crate::proofs::EntriesRead::algorithm_names, crate::proofs::EntriesRead::algorithm_contents))]
-fn algorithm_entry(
+/// An entry's meaning.
+#[tactic(auto, unfolding(crate::specs::Kinds::entry_in))]
+fn read_entry<E: Entry>(
     alloc: Global,
-    earlier: &[Algorithm],
+    field: Field,
+    known: &E::Known,
+    earlier: &[E],
     value: &Value,
-) -> Result<Algorithm, PolicyFault>
-    ensures { AnswersMeaning algorithm_view result (entry_in Field.Algorithm algorithm_in
-        (map algorithm_view earlier.now) (view value.now)) }
+) -> Result<E, PolicyFault>
+    ensures { AnswersMeaning E.seen result
+        (entry_in field (E.meaning known.now) (map E.seen earlier.now) (view value.now)) }
 {
-    let table = table_of(Field::Algorithm, value)?;
-    algorithm(alloc, earlier, table)
+    let table = table_of(field, value)?;
+    E::read(alloc, known, earlier, table)
 }
 
-#[tactic(auto, unfolding(crate::specs::Kinds::entry_in), using(crate::proofs::EntriesRead::extension_names, crate::proofs::EntriesRead::extension_contents))]
-fn extension_entry(
+/// One entry after the other.
+fn entries<E: Entry>(
     alloc: Global,
-    earlier: &[Extension],
-    value: &Value,
-) -> Result<Extension, PolicyFault>
-    ensures { AnswersMeaning extension_view result (entry_in Field.Extension extension_in
-        (map extension_view earlier.now) (view value.now)) }
-{
-    let table = table_of(Field::Extension, value)?;
-    extension(alloc, earlier, table)
-}
-
-#[tactic(auto, unfolding(crate::specs::Kinds::entry_in), using(crate::proofs::EntriesRead::tsa_policy_names, crate::proofs::EntriesRead::tsa_policy_contents))]
-fn tsa_policy_entry(
-    alloc: Global,
-    algorithms: &[Algorithm],
-    extensions: &[Extension],
-    earlier: &[TsaPolicy],
-    value: &Value,
-) -> Result<TsaPolicy, PolicyFault>
-    ensures { AnswersMeaning tsa_policy_view result
-        (entry_in Field.Policy (tsa_policy_in (map (λ e. string_bytes e.name) algorithms.now) (map
-        (λ e. string_bytes e.name) extensions.now))
-        (map tsa_policy_view earlier.now) (view value.now)) }
-{
-    let table = table_of(Field::Policy, value)?;
-    tsa_policy(alloc, algorithms, extensions, earlier, table)
-}
-
-#[tactic(auto, unfolding(crate::specs::Kinds::entry_in), using(crate::proofs::EntriesRead::account_names, crate::proofs::EntriesRead::account_hashes))]
-fn account_entry(
-    alloc: Global,
-    policies: &[TsaPolicy],
-    earlier: &[Account],
-    value: &Value,
-) -> Result<Account, PolicyFault>
-    ensures { AnswersMeaning account_view result
-        (entry_in Field.Account (account_in (map (λ e. string_bytes e.name) policies.now))
-        (map account_view earlier.now) (view value.now)) }
-{
-    let table = table_of(Field::Account, value)?;
-    account(alloc, policies, earlier, table)
-}
-
-#[tactic(auto, unfolding(crate::specs::Kinds::entry_in), using(crate::proofs::EntriesRead::group_names))]
-fn group_entry(
-    alloc: Global,
-    accounts: &[Account],
-    earlier: &[Group],
-    value: &Value,
-) -> Result<Group, PolicyFault>
-    ensures { AnswersMeaning group_view result
-        (entry_in Field.Group (group_in (map (λ e. string_bytes e.name) accounts.now))
-        (map group_view earlier.now) (view value.now)) }
-{
-    let table = table_of(Field::Group, value)?;
-    group(alloc, accounts, earlier, table)
-}
-
-fn algorithm_entries(alloc: Global, values: &[Value]) -> Result<Vec<Algorithm>, PolicyFault>
-    ensures { AnswersMeaning (λ es. map algorithm_view es.items) result
-        (entries_after (entry_in Field.Algorithm algorithm_in) [] (items_view values.now)) }
-{
-    let mut entries = Vec::new(alloc);
-    for value in values {
-        let entry = algorithm_entry(alloc, &entries, value)?;
-        entries.push(entry)?;
-    }
-    Ok(entries)
-}
-
-fn extension_entries(alloc: Global, values: &[Value]) -> Result<Vec<Extension>, PolicyFault>
-    ensures { AnswersMeaning (λ es. map extension_view es.items) result
-        (entries_after (entry_in Field.Extension extension_in) [] (items_view values.now)) }
-{
-    let mut entries = Vec::new(alloc);
-    for value in values {
-        let entry = extension_entry(alloc, &entries, value)?;
-        entries.push(entry)?;
-    }
-    Ok(entries)
-}
-
-fn tsa_policy_entries(
-    alloc: Global,
-    algorithms: &[Algorithm],
-    extensions: &[Extension],
+    field: Field,
+    known: &E::Known,
     values: &[Value],
-) -> Result<Vec<TsaPolicy>, PolicyFault>
-    ensures { AnswersMeaning (λ es. map tsa_policy_view es.items) result
-        (entries_after (entry_in Field.Policy
-        (tsa_policy_in (map (λ e. string_bytes e.name) algorithms.now) (map (λ e. string_bytes e.name) extensions.now)))
-        [] (items_view values.now)) }
+) -> Result<Vec<E>, PolicyFault>
+    ensures { AnswersMeaning (λ es. map E.seen es.items) result
+        (entries_after (entry_in field (E.meaning known.now)) [] (items_view values.now)) }
 {
     let mut entries = Vec::new(alloc);
     for value in values {
-        let entry = tsa_policy_entry(alloc, algorithms, extensions, &entries, value)?;
+        let entry = read_entry(alloc, field, known, &entries, value)?;
         entries.push(entry)?;
     }
     Ok(entries)
 }
 
-fn account_entries(
-    alloc: Global,
-    policies: &[TsaPolicy],
-    values: &[Value],
-) -> Result<Vec<Account>, PolicyFault>
-    ensures { AnswersMeaning (λ es. map account_view es.items) result
-        (entries_after (entry_in Field.Account (account_in (map (λ e. string_bytes e.name) policies.now))) []
-        (items_view values.now)) }
-{
-    let mut entries = Vec::new(alloc);
-    for value in values {
-        let entry = account_entry(alloc, policies, &entries, value)?;
-        entries.push(entry)?;
-    }
-    Ok(entries)
-}
-
-fn group_entries(
-    alloc: Global,
-    accounts: &[Account],
-    values: &[Value],
-) -> Result<Vec<Group>, PolicyFault>
-    ensures { AnswersMeaning (λ es. map group_view es.items) result
-        (entries_after (entry_in Field.Group (group_in (map (λ e. string_bytes e.name) accounts.now))) []
-        (items_view values.now)) }
-{
-    let mut entries = Vec::new(alloc);
-    for value in values {
-        let entry = group_entry(alloc, accounts, &entries, value)?;
-        entries.push(entry)?;
-    }
-    Ok(entries)
-}
-
-/// The array `algorithm`, empty where it is absent.
+/// The array of that key, of at most so many entries; empty where it is absent.
 #[tactic(auto, unfolding(crate::specs::Kinds::array_in))]
-pub(crate) fn algorithms(alloc: Global, document: &Table) -> Result<Vec<Algorithm>, PolicyFault>
-    ensures { AnswersMeaning (λ es. map algorithm_view es.items) result
-        (array_in Field.Algorithm 8 algorithm_in (get_member (codes "algorithm") (table_view document.now))) }
-{
-    let Some(value) = member(document, "algorithm") else {
-        return Ok(Vec::new(alloc));
-    };
-    let values = tables(Field::Algorithm, 8, value)?;
-    algorithm_entries(alloc, values)
-}
-
-/// The array `extension`, empty where it is absent.
-#[tactic(auto, unfolding(crate::specs::Kinds::array_in))]
-pub(crate) fn extensions(alloc: Global, document: &Table) -> Result<Vec<Extension>, PolicyFault>
-    ensures { AnswersMeaning (λ es. map extension_view es.items) result
-        (array_in Field.Extension 32 extension_in (get_member (codes "extension") (table_view document.now))) }
-{
-    let Some(value) = member(document, "extension") else {
-        return Ok(Vec::new(alloc));
-    };
-    let values = tables(Field::Extension, 32, value)?;
-    extension_entries(alloc, values)
-}
-
-/// The array `policy`, empty where it is absent.
-#[tactic(auto, unfolding(crate::specs::Kinds::array_in))]
-pub(crate) fn tsa_policies(
+pub(crate) fn array<E: Entry>(
     alloc: Global,
-    algorithms: &[Algorithm],
-    extensions: &[Extension],
     document: &Table,
-) -> Result<Vec<TsaPolicy>, PolicyFault>
-    ensures { AnswersMeaning (λ es. map tsa_policy_view es.items) result
-        (array_in Field.Policy 16
-        (tsa_policy_in (map (λ e. string_bytes e.name) algorithms.now) (map (λ e. string_bytes e.name) extensions.now))
-        (get_member (codes "policy") (table_view document.now))) }
+    key: &str,
+    field: Field,
+    most: usize,
+    known: &E::Known,
+) -> Result<Vec<E>, PolicyFault>
+    ensures { AnswersMeaning (λ es. map E.seen es.items) result
+        (array_in field most (E.meaning known.now) (get_member key.now (table_view document.now))) }
 {
-    let Some(value) = member(document, "policy") else {
+    let Some(value) = member(document, key) else {
         return Ok(Vec::new(alloc));
     };
-    let values = tables(Field::Policy, 16, value)?;
-    tsa_policy_entries(alloc, algorithms, extensions, values)
-}
-
-/// The array `account`, empty where it is absent.
-#[tactic(auto, unfolding(crate::specs::Kinds::array_in))]
-pub(crate) fn accounts(
-    alloc: Global,
-    policies: &[TsaPolicy],
-    document: &Table,
-) -> Result<Vec<Account>, PolicyFault>
-    ensures { AnswersMeaning (λ es. map account_view es.items) result
-        (array_in Field.Account 64 (account_in (map (λ e. string_bytes e.name) policies.now))
-        (get_member (codes "account") (table_view document.now))) }
-{
-    let Some(value) = member(document, "account") else {
-        return Ok(Vec::new(alloc));
-    };
-    let values = tables(Field::Account, 64, value)?;
-    account_entries(alloc, policies, values)
-}
-
-/// The array `group`, empty where it is absent.
-#[tactic(auto, unfolding(crate::specs::Kinds::array_in))]
-pub(crate) fn groups(
-    alloc: Global,
-    accounts: &[Account],
-    document: &Table,
-) -> Result<Vec<Group>, PolicyFault>
-    ensures { AnswersMeaning (λ es. map group_view es.items) result
-        (array_in Field.Group 16 (group_in (map (λ e. string_bytes e.name) accounts.now))
-        (get_member (codes "group") (table_view document.now))) }
-{
-    let Some(value) = member(document, "group") else {
-        return Ok(Vec::new(alloc));
-    };
-    let values = tables(Field::Group, 16, value)?;
-    group_entries(alloc, accounts, values)
+    let values = tables(field, most, value)?;
+    entries(alloc, field, known, values)
 }

@@ -1,12 +1,10 @@
 //! A policy file's whole document.
 ghost use Rattle.std.specs.Prelude.{◌≡◌, option_map, map, string_bytes};
 ghost use Rattle.toml.specs.View.{table_view};
-ghost use Rattle.policy.specs.Answers.{AnswersMeaning};
-ghost use Rattle.policy.specs.Meaning.{policy_in, is_none_or_among};
-ghost use Rattle.policy.specs.View.{policy_view};
+ghost use Rattle.policy.specs.{Answers.AnswersMeaning, View.policy_view, Meaning.policy_in, Meaning.is_none_or_among};
 
-use crate::arrays::{accounts, algorithms, counter, extensions, groups, tsa_policies};
-use crate::entries::{Account, Counter};
+use crate::arrays::{array, counter};
+use crate::entries::{Account, Algorithm, Counter, Extension, Group, TsaPolicy};
 use crate::fault::PolicyFault;
 use crate::field::Field;
 use crate::find::has_name;
@@ -27,7 +25,7 @@ fn anonymous_exists(counter: &Counter, accounts: &[Account]) -> bool
 }
 
 /// What a document says.
-#[tactic(auto, unfolding(crate::specs::Meaning::policy_in))]
+#[tactic(auto, unfolding(crate::specs::Meaning::policy_in), using(crate::proofs::EntriesRead::entry_values))]
 pub(crate) fn from_table(alloc: Global, document: &Table) -> Result<Policy, PolicyFault>
     ensures { AnswersMeaning policy_view result (policy_in (table_view document.now)) }
 {
@@ -46,14 +44,16 @@ pub(crate) fn from_table(alloc: Global, document: &Table) -> Result<Policy, Poli
         return Err(PolicyFault::Missing(Field::Counter));
     };
     let counter = counter(alloc, value)?;
-    let algorithms = algorithms(alloc, document)?;
-    let extensions = extensions(alloc, document)?;
-    let policies = tsa_policies(alloc, &algorithms, &extensions, document)?;
-    let accounts = accounts(alloc, &policies, document)?;
-    let groups = groups(alloc, &accounts, document)?;
+    let algorithms = array::<Algorithm>(alloc, document, "algorithm", Field::Algorithm, 8, &())?;
+    let extensions = array::<Extension>(alloc, document, "extension", Field::Extension, 32, &())?;
+    let named = (algorithms, extensions);
+    let policies = array::<TsaPolicy>(alloc, document, "policy", Field::Policy, 16, &named)?;
+    let accounts = array::<Account>(alloc, document, "account", Field::Account, 64, &policies)?;
+    let groups = array::<Group>(alloc, document, "group", Field::Group, 16, &accounts)?;
     if !anonymous_exists(&counter, &accounts) {
         return Err(PolicyFault::UnknownName(Field::CounterAnonymous));
     }
+    let (algorithms, extensions) = named;
     Ok(Policy {
         counter,
         algorithms,

@@ -1,7 +1,6 @@
 //! Searching entries. These searches take no memory.
 ghost use Rattle.std.specs.Prelude.{◌≡◌, Option, option_map, List, map, string_bytes};
-ghost use Rattle.std.specs.List.{find, list_all, list_any};
-ghost use Rattle.std.specs.Str.{bytes_eq};
+ghost use Rattle.std.specs.{List.find, List.list_all, List.list_any, Str.bytes_eq};
 ghost use Rattle.der.specs.ObjectIdentifier.{oid_content};
 ghost use Rattle.policy.specs.Kinds.{is_among, are_distinct, is_hash};
 

@@ -7,8 +7,7 @@ use crate::find::has_name;
 use std::marker::Model;
 
 impl Group {
-    ghost use Rattle.policy.specs.LookUp.{has_member};
-    ghost use Rattle.policy.specs.View.{group_view};
+    ghost use Rattle.policy.specs.{LookUp.has_member, View.group_view};
 
     /// Whether the account of that name is a member.
     pub fn has_member(&self, account: &str) -> bool
@@ -34,8 +33,7 @@ impl<'p> Model for GroupNames<'p> {
 }
 
 impl<'p> GroupNames<'p> {
-    ghost use Rattle.policy.specs.LookUp.{has_member};
-    ghost use Rattle.policy.specs.View.{group_view};
+    ghost use Rattle.policy.specs.{LookUp.has_member, View.group_view};
 
     /// The names of those that have the account as a member, in their order.
     pub(crate) fn of(groups: &'p [Group], account: &str) -> GroupNames<'p>

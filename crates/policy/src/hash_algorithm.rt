@@ -1,7 +1,6 @@
 //! The hash algorithms whose hashes have one length.
 ghost use Rattle.std.specs.Prelude.{◌≡◌, ◌≤◌, option_map, IfSome, IsNone};
-ghost use Rattle.std.specs.List.{find};
-ghost use Rattle.std.specs.Str.{bytes_eq};
+ghost use Rattle.std.specs.{List.find, Str.bytes_eq};
 ghost use Rattle.der.specs.ObjectIdentifier.{oid_content};
 ghost use Rattle.policy.specs.HashAlgorithms.{value_of, hash_algorithms};
 

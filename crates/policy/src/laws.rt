@@ -1,7 +1,5 @@
 ghost use Rattle.std.specs.Prelude.{◌≡◌, ℕ, List};
-ghost use Rattle.policy.specs.Meaning.{meaning_of};
-ghost use Rattle.policy.specs.Record.{PolicyValue};
-ghost use Rattle.policy.specs.Sound.{IsSound};
+ghost use Rattle.policy.specs.{Meaning.meaning_of, Sound.IsSound, Record.PolicyValue};
 
 /// What holds of each record that a policy file means: within an array the names differ, and so do the object
 /// identifiers and the key hashes; each listed name stands once in its list and exists; each number is in its range,

@@ -2,13 +2,11 @@
 //! allocator take no memory.
 ghost use Rattle.std.specs.Prelude.{◌≡◌, ◌≤◌, None, [], Option, option_map, map, string_bytes, IfOk};
 ghost use Rattle.std.specs.List.{list_all};
-ghost use Rattle.toml.specs.Data.{get_member};
-ghost use Rattle.toml.specs.View.{view, items_view, table_view};
-ghost use Rattle.policy.specs.Answers.{AnswersMeaning};
+ghost use Rattle.toml.specs.{Data.get_member, View.view, View.items_view, View.table_view};
+ghost use Rattle.policy.specs.{Answers.AnswersMeaning, View.names_view};
 ghost use Rattle.policy.specs.Kinds.{is_name, is_name_character, is_among, truth_in, number_in, name_in, some_name_in};
 ghost use Rattle.policy.specs.Kinds.{oid_in, hash_in, new_name_in, new_oid_in, names_in, listed, values_in};
 ghost use Rattle.policy.specs.Kinds.{entries_after, wanted, optional, only};
-ghost use Rattle.policy.specs.View.{names_view};
 ghost use Rattle.der.specs.ObjectIdentifier.{oid_content};
 
 use crate::fault::PolicyFault;

@@ -29,12 +29,11 @@ pub struct Policy {
 
 impl Policy {
     ghost use Rattle.std.specs.Prelude.{◌≡◌, ◌↔◌, Contains, IsTrue, Option, option_map};
-    ghost use Rattle.policy.specs.Answers.{AnswersMeaning};
-    ghost use Rattle.policy.specs.Meaning.{meaning_of};
+    ghost use Rattle.policy.specs.{Answers.AnswersMeaning, LookUp.group_named, LookUp.groups_of};
+    ghost use Rattle.policy.specs.{Meaning.meaning_of, View.policy_view};
     ghost use Rattle.policy.specs.View.{algorithm_view, extension_view, tsa_policy_view, account_view, group_view};
-    ghost use Rattle.policy.specs.View.{policy_view};
-    ghost use Rattle.policy.specs.LookUp.{account_named, account_of_key, anonymous_account, policy_named, policy_of_oid};
-    ghost use Rattle.policy.specs.LookUp.{default_policy, algorithm_of_oid, extension_of_oid, group_named, groups_of};
+    ghost use Rattle.policy.specs.LookUp.{account_named, account_of_key, anonymous_account, policy_named};
+    ghost use Rattle.policy.specs.LookUp.{policy_of_oid, default_policy, algorithm_of_oid, extension_of_oid};
 
     /// What the text of a policy file says, or its first fault: `Toml` where it is no TOML document, then the first of
     /// `Missing`, `BadValue`, `Duplicate`, `UnknownName` and `TooMany` in the order of the tables and of their keys.

@@ -1,9 +1,8 @@
 -- Lemmas on values one after the other, and on options.
 use Rattle.std.proofs.Common.{◌≡◌, ℕ, eqb, List, [], ◌∷◌, ◌++◌, Some, refl, ap}
-use Rattle.std.proofs.lemmas.Option.{cond_some}
+use Rattle.std.proofs.lemmas.{Option.cond_some, Bool.eqb-true}
 use Rattle.der.specs.Node.{Node, primitive, constructed, Nodes, no_nodes, node, contents_of, components_of, first_of}
 use Rattle.der.specs.Tree.{nodes}
-use Rattle.std.proofs.lemmas.Bool.{eqb-true}
 
 -- values before others
 abbrev pub before : List Node → Nodes → Nodes

@@ -1,16 +1,11 @@
 -- Extensions one after the other.
-use Rattle.std.proofs.Common.{◌≡◌, ℕ, Bool, true, false, suc, ◌<◌, List, [], ◌∷◌, ◌++◌, Option, Some, None, unwrap_or}
-use Rattle.std.proofs.Common.{refl, sym, ap, ◌∙◌, subst, arith, append_assoc, append-nil}
+use Rattle.std.proofs.Common.{◌≡◌, ℕ, Bool, true, false, suc, List, [], ◌∷◌, Option, Some, None, unwrap_or, refl, sym}
+use Rattle.std.proofs.{Common.ap, Common.◌∙◌, Common.subst, lemmas.Option.same_Some, lemmas.Option.option_and_then_some}
 use Rattle.std.specs.Option.{option_and_then, option_map, is_some, MatchOption}
-use Rattle.std.proofs.lemmas.Option.{same_Some, option_and_then_some}
-use Rattle.der.specs.Node.{Node, Nodes, no_nodes, node, first_of, is_end, encoding, encodings, components_of, IsFormed}
-use Rattle.der.specs.Node.{AreFormed}
-use Rattle.der.specs.Tree.{nodes}
-use Rattle.tsp.specs.Request.{ExtensionValue, extension, extension_nodes}
-use Rattle.tsp.specs.View.{extension_view}
-use Rattle.tsp.specs.declared.extensions.Extension.{Extension}
+use Rattle.der.specs.Node.{Node, Nodes, no_nodes, node, first_of, is_end, components_of}
+use Rattle.tsp.{specs.Request.ExtensionValue, specs.Request.extension_nodes, proofs.RequestTakes.extensions_takes}
+use Rattle.tsp.specs.{View.extension_view, declared.extensions.Extension.Extension}
 use Rattle.tsp.proofs.RequestReads.{extensions_of-extension_nodes, all_allowed}
-use Rattle.tsp.proofs.RequestTakes.{extensions_takes}
 use Rattle.tsp.specs.Parser.{extension_of, extensions_of, some_extensions, extension_list_of}
 use Rattle.tsp.specs.ExtensionsInPlace.{extensions_in, AreExtensions}
 
@@ -49,25 +44,12 @@ are_extensions_some may (node n ns) rest first v e found =
     let left = ap (λ (p : Node × Nodes). p.1) (same_Some (n, ns) (first, rest) e) in
     rw (same, found, left) (after_one v (extensions_of may rest))
 
-pub count_of-first : (ns rest : Nodes) (first : Node) → first_of ns ≡ Some (first, rest) → count_of rest < count_of ns
-count_of-first no_nodes rest first e = cc
-count_of-first (node n ns) rest first e = let left =
-    ap (λ (p : Node × Nodes). p.1) (same_Some (n, ns) (first, rest) e) in omega (arith, ap count_of left)
-
 -- ---- extensions where they lie
 
 pub none_left : (ns : Nodes) → first_of ns ≡ None → extensions_in ns ≡ []
 unfolding extensions_in extensions_of
 none_left no_nodes e = refl
 none_left (node first others) e = cc
-
-pub are_by_some : (ns : Nodes) → is_some (extensions_of true ns) ≡ true → AreExtensions ns
-unfolding extensions_in
-are_by_some ns some = by_answer (extensions_of true ns) some
-  where
-    by_answer : (read : Option (List ExtensionValue)) → is_some read ≡ true → read ≡ Some (unwrap_or read [])
-    by_answer None some = cc
-    by_answer (Some es) some = refl
 
 -- an extension and those after it
 pub record IsStep (first : Node) (ns rest : Nodes) : Type 0 where
@@ -141,16 +123,6 @@ unfolding extension_list_of extensions_of some_extensions
 list_empty may tag n no_nodes e none = rw (sym e) refl
 list_empty may tag n (node first others) e none = cc
 
-pub list_others : (may : Bool) (tag : ℕ) (n : Node) (ns : Nodes) → Some ns ≡ components_of tag n
-    → is_some (extensions_of may ns) ≡ false → None ≡ extension_list_of may tag n
-unfolding extension_list_of
-list_others may tag n ns e none = rw (sym e) (sym (by_answer (extensions_of may ns) none))
-  where
-    by_answer : (read : Option (List ExtensionValue)) → is_some read ≡ false
-        → option_and_then some_extensions read ≡ None
-    by_answer None none = refl
-    by_answer (Some es) none = cc
-
 some_by : (ns : Nodes) → false ≡ is_end ns → AreExtensions ns
     → some_extensions (extensions_in ns) ≡ Some (extensions_in ns)
 unfolding some_extensions
@@ -172,21 +144,7 @@ pub first_by : (old rest : List ExtensionValue) (value : ExtensionValue) (result
 first_by old rest value None e all = cc
 first_by old rest value (Some x) e all = all ∙ ap (λ v. v ∷ rest) (sym (same_Some (extension_view x) value e))
 
--- ---- extensions that are written
+pub ruleset are_extensions_laws =
+    (none_by, value_by, are_extensions_end, are_extensions_none, are_extensions_some)
 
-pub written_none : (writer left : List ℕ) (es : List ExtensionValue)
-    → writer ++ encodings (nodes (extension_nodes [] es)) ≡ left → es ≡ [] → writer ≡ left
-written_none writer left es e none = sym (append-nil writer)
-    ∙ ap (λ xs. writer ++ encodings (nodes (extension_nodes [] xs))) (sym none) ∙ e
-
-pub written_some : (writer pushed left : List ℕ) (all rest : List ExtensionValue) (v : ExtensionValue)
-    → writer ++ encodings (nodes (extension_nodes [] all)) ≡ left → all ≡ v ∷ rest
-    → pushed ≡ writer ++ encoding (extension false v) → pushed ++ encodings (nodes (extension_nodes [] rest)) ≡ left
-written_some writer pushed left all rest v e step push =
-    ap (λ w. w ++ encodings (nodes (extension_nodes [] rest))) push
-    ∙ append_assoc writer (encoding (extension false v)) (encodings (nodes (extension_nodes [] rest)))
-    ∙ ap (λ xs. writer ++ encodings (nodes (extension_nodes [] xs))) (sym step) ∙ e
-
-pub formed_some : (all rest : List ExtensionValue) (v : ExtensionValue) → AreFormed (nodes (extension_nodes [] all))
-    → all ≡ v ∷ rest → IsFormed (extension false v) × AreFormed (nodes (extension_nodes [] rest))
-formed_some all rest v formed step = subst (λ xs. AreFormed (nodes (extension_nodes [] xs))) step formed
+pub ruleset list_laws = (tested, list_empty, list_found)

@@ -15,4 +15,3 @@ pub mod TstRead
 pub mod TstReads
 pub mod TstTakes
 pub mod TstText
-pub mod Versions

@@ -1,18 +1,13 @@
 -- Numbers from 0 to 2 ^ 63 - 1, by their contents octets.
 use Rattle.std.proofs.Common.{◌≡◌, ℕ, zero, suc, ◌+◌, ◌*◌, ◌^◌, ◌<◌, ◌≤◌, Bool, true, false, cond, ltb, ℤ, pos, List}
 use Rattle.std.proofs.Common.{[], ◌∷◌, length, take, get_or, Some, None, refl, ap, ◌∙◌, arith}
-use Rattle.std.specs.Int.Digits.{number_from_digits, number_from_digits_after}
+use Rattle.std.specs.{Int.Digits.number_from_digits, Int.Digits.number_from_digits_after, Option.option_and_then}
 use Rattle.std.proofs.lemmas.Int.Digits.{number_lt, number_after_lt}
-use Rattle.std.proofs.lemmas.Bool.Decides.{nat_tests}
-use Rattle.std.proofs.lemmas.Bool.{leb-true}
-use Rattle.std.specs.Option.{option_and_then}
+use Rattle.std.proofs.lemmas.{Bool.Decides.nat_tests, Bool.leb-true, List.length-take-le}
 use Rattle.std.proofs.Math.Nat.{pow-le-pow_right, pow-suc, mul-le-mul_right}
-use Rattle.std.proofs.lemmas.List.{length-take-le}
-use Rattle.der.specs.Node.{AreOctets}
+use Rattle.der.specs.{Node.AreOctets, Number.is_shortest, Number.twos_value}
 use Rattle.der.proofs.Octets.{AreOctets-take, AreOctets-at}
-use Rattle.der.specs.Number.{is_shortest, twos_value}
-use Rattle.tsp.specs.Parser.{integer_value_of}
-use Rattle.tsp.specs.TstParser.{natural, natural_of}
+use Rattle.tsp.specs.{Parser.integer_value_of, auxiliary.TstParser.natural, auxiliary.TstParser.natural_of}
 
 -- fewer than eight octets are a number below 2 ^ 56
 pub prefix_small : (os : List ℕ) (i n : ℕ) → ((k : ℕ) → get_or os k 0 < 256) → i < length os → length os ≤ 8
@@ -120,3 +115,5 @@ pub by_some : (os : List ℕ) → ((k : ℕ) → get_or os k 0 < 256) → 1 ≤ 
 by_some [] bytes some shortest small short = absurd (omega arith)
 by_some (first ∷ others) bytes some shortest small short =
     natural_of-some first others shortest (AreOctets-at (first ∷ others) bytes).1 small (omega arith)
+
+pub ruleset natural_laws = (natural_of-others, by_negative, by_long, by_some)

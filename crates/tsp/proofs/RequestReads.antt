@@ -1,21 +1,16 @@
 -- What the grammar gives for a request is read as that request.
 use Rattle.std.proofs.Common.{◌≡◌, ℕ, Bool, true, false, ◌||◌, ℤ, List, [], ◌∷◌, ◌++◌, Option, Some, None, refl, sym}
-use Rattle.std.proofs.Common.{ap, ◌∙◌}
-use Rattle.std.specs.Option.{IfSome}
-use Rattle.std.specs.List.{AllByRecursion}
+use Rattle.std.proofs.{Common.ap, Common.◌∙◌, Common.arith, lemmas.Bool.eq-eqb}
+use Rattle.std.specs.{Option.IfSome, List.AllByRecursion}
 use Rattle.der.specs.Node.{Node, constructed, Nodes, no_nodes, node, identifier_of}
-use Rattle.der.specs.Tree.{nodes}
-use Rattle.der.specs.ObjectIdentifier.{IsOid}
+use Rattle.der.{specs.Tree.nodes, specs.ObjectIdentifier.IsOid, proofs.OidContents.oid_of-content}
 use Rattle.der.proofs.NumberContents.{twos_value-number_content, is_shortest-number_content}
-use Rattle.der.proofs.OidContents.{oid_of-content}
 use Rattle.tsp.specs.Grammar.{integer, boolean, octet_string, object_identifier, sequence, optional, false_by_default}
 use Rattle.tsp.specs.Request.{ImprintValue, ExtensionValue, RequestValue, IsRequest, Stated, message_imprint, extension}
 use Rattle.tsp.specs.Request.{extension_nodes, extensions_under, time_stamp_req}
 use Rattle.tsp.specs.Parser.{integer_value_of, integer_of, truth_of, boolean_of, stated_of, oid_in, only, end_of}
-use Rattle.tsp.specs.Parser.{optional_at, flag_at, parameters_of, algorithm_of, imprint_of, extension_of}
-use Rattle.tsp.specs.Parser.{extensions_of, some_extensions, extension_list_of, extensions_at, request_of}
-use Rattle.std.proofs.Common.{arith}
-use Rattle.std.proofs.lemmas.Bool.{eq-eqb}
+use Rattle.tsp.specs.Parser.{optional_at, flag_at, parameters_of, algorithm_of, imprint_of, extension_of, extensions_of}
+use Rattle.tsp.specs.Parser.{some_extensions, extension_list_of, extensions_at, request_of}
 use borrow.Author.Tests.{ne_eqb}
 use Rattle.tsp.proofs.Components.{before, nodes-append}
 

@@ -2,17 +2,13 @@
 use Rattle.std.proofs.Common.{◌≡◌, ℕ, Bool, true, false, ◌||◌, cond, ℤ, List, [], ◌∷◌, Option, Some, None, ◌⊎◌, inl}
 use Rattle.std.proofs.Common.{inr, eqb, refl, sym, ap, ◌∙◌, subst}
 use mathlib.Core.Logic.{⊎_elim}
-use Rattle.std.specs.Option.{IfSome, unwrap_or}
-use Rattle.std.specs.List.{AllByRecursion}
-use Rattle.std.proofs.lemmas.Option.{option_and_then_some, cond_some}
-use Rattle.std.proofs.lemmas.Bool.{eqb-true}
+use Rattle.std.specs.{Option.IfSome, Option.unwrap_or, List.AllByRecursion}
+use Rattle.std.proofs.lemmas.{Option.option_and_then_some, Option.cond_some, Bool.eqb-true}
 use Rattle.der.specs.Node.{Node, primitive, constructed, Nodes, no_nodes, node, contents_of, components_of, first_of}
 use Rattle.der.specs.Node.{identifier_of, IsFormed, AreFormed, AreOctets}
-use Rattle.der.specs.Tree.{nodes}
+use Rattle.der.specs.{Tree.nodes, ObjectIdentifier.IsOid, ObjectIdentifier.oid_of}
 use Rattle.der.specs.Number.{is_shortest, twos_value, number_content}
-use Rattle.der.specs.ObjectIdentifier.{IsOid, oid_of}
-use Rattle.der.proofs.NumberContents.{number_content-twos_value}
-use Rattle.der.proofs.OidContents.{oid_of-some}
+use Rattle.der.proofs.{NumberContents.number_content-twos_value, OidContents.oid_of-some}
 use Rattle.tsp.specs.Grammar.{integer, boolean, octet_string, object_identifier, sequence, optional, false_by_default}
 use Rattle.tsp.specs.Request.{ImprintValue, ExtensionValue, RequestValue, IsRequest, Stated, message_imprint, extension}
 use Rattle.tsp.specs.Request.{extension_nodes, extensions_under, time_stamp_req}

@@ -1,12 +1,10 @@
 -- The octets of a request without stated FALSEs, part by part.
 use Rattle.std.proofs.Common.{◌≡◌, ℕ, false, List, [], ◌++◌, sym, ap, ◌∙◌, append_assoc}
 use Rattle.der.specs.Node.{Nodes, node, element, encoding, encodings}
-use Rattle.der.specs.Tree.{nodes}
-use Rattle.der.specs.Number.{number_content}
+use Rattle.der.specs.{Tree.nodes, Number.number_content}
 use Rattle.tsp.specs.Grammar.{integer, object_identifier, optional, false_by_default}
 use Rattle.tsp.specs.Request.{RequestValue, message_imprint, extensions_under, unstated}
-use Rattle.tsp.proofs.RequestReads.{request_tail}
-use Rattle.tsp.proofs.TstText.{encodings-before}
+use Rattle.tsp.proofs.{RequestReads.request_tail, TstText.encodings-before}
 
 regroup : (a b c d e f : List ℕ) → ((((a ++ b) ++ c) ++ d) ++ e) ++ f ≡ a ++ (b ++ (c ++ (d ++ (e ++ f))))
 regroup a b c d e f = simp append_assoc

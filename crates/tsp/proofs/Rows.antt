@@ -1,10 +1,8 @@
 -- The definitions, computed on octets that OpenSSL writes for the same values.
 use Rattle.std.proofs.Common.{◌≡◌, pos, true, false, [], ◌∷◌, refl, Some, None}
 use Rattle.der.specs.Node.{Node, primitive, constructed, no_nodes, node, encoding, length_octets}
-use Rattle.der.specs.Number.{number_content}
-use Rattle.der.specs.ObjectIdentifier.{subidentifier_octets}
-use Rattle.gentime.specs.Calendar.{civil_date}
-use Rattle.gentime.specs.GenTime.{spelling, text_of, time_of}
+use Rattle.der.specs.{Number.number_content, ObjectIdentifier.subidentifier_octets}
+use Rattle.gentime.specs.{Calendar.civil_date, GenTime.spelling, GenTime.text_of, GenTime.time_of}
 use Rattle.tsp.specs.Request.{ImprintValue, ExtensionValue, RequestValue, time_stamp_req}
 use Rattle.tsp.specs.Tst.{answer, tst_info}
 

@@ -1,18 +1,11 @@
 -- What is read from a lawful value is the request that its octets spell.
-use Rattle.std.proofs.Common.{◌≡◌, ℕ, List, Option, Some, None, Result, Err, IfOk, MatchResult, [], ◌++◌, sym, ap}
-use Rattle.std.proofs.Common.{◌∙◌, subst}
+use Rattle.std.proofs.Common.{◌≡◌, ℕ, List, Option, Some, None, Result, Err, IfOk, MatchResult, [], ◌++◌, sym, ap, ◌∙◌}
+use Rattle.std.proofs.{Common.subst, lemmas.Option.same_Some, lemmas.Option.none-some}
 use Rattle.std.specs.Option.{IfSome, MatchOption, option_map, ok_or}
-use Rattle.std.proofs.lemmas.Option.{same_Some, none-some}
-use Rattle.der.specs.Node.{Node, encoding, IsLawful}
-use Rattle.der.proofs.ReadingNodes.{encoding_ends}
-use Rattle.tsp.specs.Request.{RequestValue, Spells, time_stamp_req}
-use Rattle.tsp.specs.Parser.{request_of}
-use Rattle.tsp.specs.View.{request_view}
-use Rattle.tsp.specs.declared.request.Request.{Request}
-use Rattle.tsp.specs.declared.fault.TspFault.{TspFault}
-use Rattle.tsp.specs.declared.fault.TspFault.TheVariants.{Form}
-use Rattle.tsp.proofs.RequestReads.{request_of-request}
-use Rattle.tsp.proofs.RequestTakes.{request_takes}
+use Rattle.der.{specs.Node.Node, specs.Node.encoding, specs.Node.IsLawful, proofs.ReadingNodes.encoding_ends}
+use Rattle.tsp.{specs.Request.RequestValue, specs.Request.Spells, specs.Request.time_stamp_req, specs.Parser.request_of}
+use Rattle.tsp.{specs.View.request_view, proofs.RequestReads.request_of-request, proofs.RequestTakes.request_takes}
+use Rattle.tsp.specs.declared.{request.Request.Request, fault.TspFault.TspFault, fault.TspFault.TheVariants.Form}
 
 pub spelled_from_read : (octets : List ℕ) (n : Node) (r : RequestValue) → IsLawful n → octets ≡ encoding n
     → request_of n ≡ Some r → Spells octets r

@@ -1,16 +1,13 @@
 -- The octets that spell a request are written out part by part, and a request without a FALSE has one spelling.
 use Rattle.std.proofs.Common.{◌≡◌, ℕ, Bool, true, false, List, [], ◌∷◌, ◌++◌, inl, inr, refl, sym, ap, ap₂, ◌∙◌}
-use Rattle.std.proofs.Common.{append-nil}
-use Rattle.std.specs.List.{AllByRecursion}
+use Rattle.std.{proofs.Common.append-nil, specs.List.AllByRecursion}
 use Rattle.der.specs.Node.{Node, constructed, element, encoding, encodings, length_octets}
 use Rattle.der.specs.Tree.{nodes}
 use Rattle.tsp.specs.Grammar.{sequence, integer, object_identifier, octet_string, optional, false_by_default}
 use Rattle.tsp.specs.Request.{ExtensionValue, RequestValue, Stated, Spells, message_imprint, extension, extension_nodes}
 use Rattle.tsp.specs.Request.{extensions_under, time_stamp_req}
 use Rattle.tsp.specs.Spellings.{HasNoFalse, AreFlag, AreExtension, AreExtensionList, AreExtensions, AreRequest}
-use Rattle.tsp.proofs.Components.{nodes-append}
-use Rattle.tsp.proofs.RequestReads.{request_tail}
-use Rattle.tsp.proofs.TstText.{encodings-before}
+use Rattle.tsp.proofs.{Components.nodes-append, TstText.encodings-before, RequestReads.request_tail}
 
 flag_octets : (stated b : Bool) → AreFlag b (encodings (nodes (false_by_default stated b)))
 unfolding length_octets

@@ -1,28 +1,21 @@
 -- The TSTInfo that answers a request of at most 65,536 octets is lawful.
 use Rattle.std.proofs.Common.{◌≡◌, ℕ, suc, ◌+◌, ◌/◌, ◌%◌, ◌<◌, ◌≤◌, ◌^◌, Bool, true, false, cond, eqb, pos, List, []}
-use Rattle.std.proofs.Common.{◌∷◌, ◌++◌, length, ◌⊎◌, Option, Some, None, inl, inr, refl, sym, ap, ◌∙◌, subst}
-use Rattle.std.proofs.Common.{arith, length-append}
+use Rattle.std.proofs.Common.{◌∷◌, ◌++◌, length, ◌⊎◌, Option, Some, None, inl, inr, refl, sym, ap, ◌∙◌, subst, arith}
+use Rattle.std.{proofs.Common.length-append, specs.Option.IfSome}
 use Rattle.der.specs.Node.{Node, primitive, constructed, Nodes, no_nodes, node, element, encoding, encodings, AreOctets}
-use Rattle.der.specs.Node.{IsLawful}
-use Rattle.std.specs.Option.{IfSome}
-use Rattle.der.specs.Tree.{nodes}
-use Rattle.der.specs.Number.{number_content}
+use Rattle.der.specs.{Node.IsLawful, Node.IsLowTag, Node.bit_six, Tree.nodes, Number.number_content}
 use Rattle.der.specs.ObjectIdentifier.{IsOid, oid_content}
 use Rattle.der.proofs.NumberContents.{octets-number_content, length-magnitude}
 use Rattle.der.proofs.OidContents.{octets-oid_content, length-oid_content}
-use Rattle.gentime.specs.GenTime.{text_of, last_moment}
-use Rattle.gentime.proofs.Texts.{text_of_short}
+use Rattle.gentime.{specs.GenTime.text_of, specs.GenTime.last_moment, proofs.Texts.text_of_short}
 use Rattle.tsp.specs.Grammar.{integer, boolean, octet_string, object_identifier, sequence, optional, false_by_default}
-use Rattle.tsp.specs.Request.{ExtensionValue, RequestValue, IsRequest, Stated, Spells, sha256_identifier}
-use Rattle.tsp.specs.Request.{sha256_request, message_imprint, extension, extension_nodes, extensions_under, unstated}
-use Rattle.tsp.specs.Request.{time_stamp_req}
-use Rattle.tsp.specs.Tst.{TstValue, IsTst, IsTsaName, accuracy_part, accuracy, generalized_time, tsa, tst_info}
-use Rattle.tsp.specs.Tst.{IsName, answer}
-use Rattle.tsp.proofs.ObjectIdentifiers.{sha256_is_oid}
-use Rattle.tsp.proofs.Components.{before, nodes-append}
+use Rattle.tsp.specs.Request.{ExtensionValue, RequestValue, IsRequest, Spells, sha256_identifier, sha256_request}
+use Rattle.tsp.specs.Request.{message_imprint, extension, extension_nodes, extensions_under, unstated, time_stamp_req}
+use Rattle.tsp.specs.Tst.{TstValue, IsTst, IsTsaName, accuracy_part, accuracy, generalized_time, tsa, tst_info, IsName}
+use Rattle.tsp.{specs.Tst.answer, proofs.Components.before, proofs.Components.nodes-append}
+use Rattle.tsp.proofs.{ObjectIdentifiers.sha256_is_oid, RequestReads.request_tail}
 use Rattle.tsp.proofs.Sizes.{IsWithin, AreWithin, wider, within_none, within_node, within_before, within_primitive}
 use Rattle.tsp.proofs.Sizes.{within_constructed, within_components, within_first, within_parts, length-element}
-use Rattle.tsp.proofs.RequestReads.{request_tail}
 
 oid_is_short : (a : List ℕ) → IsOid a → AreOctets (oid_content a) × (length (oid_content a) ≤ 608)
 oid_is_short a h = (octets-oid_content a, omega (arith, length-oid_content a h))
@@ -126,44 +119,49 @@ within_extensions (s ∷ ss) depth size (e ∷ es) h =
     (nodes (extension_nodes [] es)) one rest in
     record { formed = all.formed; deep = all.deep; long = omega (arith, all.long, sum, h.long) }
 
--- the extensions of a request, as a TSTInfo has them
-within_extension_list : (stated : List Bool) (depth size : ℕ) (es : List ExtensionValue) → size < 16777216
-    → AreWithin (suc (suc depth)) size (nodes (extensions_under 160 stated es))
-    → AreWithin (suc (suc depth)) (size + 5) (nodes (extensions_under 161 [] es))
-within_extension_list stated depth size [] small h = record { formed = tt; deep = omega arith; long = omega arith }
-within_extension_list stated depth size (e ∷ es) small h =
-    let list = within_first (suc (suc depth)) size (constructed 160 (nodes (extension_nodes stated (e ∷ es)))) no_nodes
-    h in
-    let inside = within_components 160 (suc depth) size (nodes (extension_nodes stated (e ∷ es))) list.0 in
-    let new = within_constructed 161 (suc depth) size (nodes (extension_nodes [] (e ∷ es))) (omega arith, omega arith)
-    refl (within_extensions stated depth size (e ∷ es) inside) small in
-    let one = within_node (suc (suc depth)) (size + 5) 0 (constructed 161 (nodes (extension_nodes [] (e ∷ es))))
-    no_nodes new (within_none (suc (suc depth))) in
+-- the extensions of a request under a tag, without stated FALSEs
+within_extension_list : (tag : ℕ) (stated : List Bool) (depth size : ℕ) (es : List ExtensionValue) → IsLowTag tag
+    → bit_six tag ≡ 1 → size < 16777216 → AreWithin (suc (suc depth)) size (nodes (extensions_under 160 stated es))
+    → AreWithin (suc (suc depth)) (size + 5) (nodes (extensions_under tag [] es))
+within_extension_list tag stated depth size [] low bit small h =
+    record { formed = tt; deep = omega arith; long = omega arith }
+within_extension_list tag stated depth size (e ∷ es) low bit small h =
+    let inside = within_components 160 (suc depth) size _ (within_first (suc (suc depth)) size _ no_nodes h).0 in
+    let new = within_constructed tag (suc depth) size _ low bit (within_extensions stated depth size (e ∷ es) inside)
+    small in
+    let one = within_node (suc (suc depth)) (size + 5) 0 _ no_nodes new (within_none (suc (suc depth))) in
     record { formed = one.formed; deep = one.deep; long = omega (arith, one.long) }
 
--- the parts of a request that its TSTInfo repeats
-record Repeats (r : RequestValue) : Type 0 where
+-- the parts of a request
+record Parts (r : RequestValue) : Type 0 where
+  version : IsWithin 31 65536 (integer r.version)
   imprint : IsWithin 31 65536 (message_imprint r.imprint)
+  policy : AreWithin 31 65536 (nodes (optional object_identifier r.policy))
   nonce : AreWithin 31 65536 (nodes (optional integer r.nonce))
-  extensions : AreWithin 31 65541 (nodes (extensions_under 161 [] r.extensions))
+  extensions : (tag : ℕ) → IsLowTag tag → bit_six tag ≡ 1
+      → AreWithin 31 65541 (nodes (extensions_under tag [] r.extensions))
 
-repeats : (s : Stated) (r : RequestValue) → IsLawful (time_stamp_req s r)
-    → length (encoding (time_stamp_req s r)) ≤ 65536 → Repeats r
-repeats s r lawful short =
-    let whole : IsWithin 32 65536 (time_stamp_req s r) =
-    record { formed = lawful.formed; deep = lawful.depth; long = short } in
-    let inside = within_components 48 31 65536 _ whole in
-    let first = within_first 31 65536 (integer r.version) _ inside in
+parts_of : (octets : List ℕ) (r : RequestValue) → Spells octets r → length octets ≤ 65536 → Parts r
+parts_of octets r spells short =
+    let s = spells.stated in
+    let whole : IsWithin 32 65536 (time_stamp_req s r) = record {
+      formed = spells.lawful.formed;
+      deep = spells.lawful.depth;
+      long = omega (arith, short, ap length spells.spelled);
+    } in
+    let first = within_first 31 65536 (integer r.version) _ (within_components 48 31 65536 _ whole) in
     let second = within_first 31 65536 (message_imprint r.imprint) _ first.1 in
     let tail = subst (AreWithin 31 65536) (request_tail s r) second.1 in
     let policy = within_parts 31 65536 (optional object_identifier r.policy) _ tail in
     let nonce = within_parts 31 65536 (optional integer r.nonce) _ policy.1 in
     let flag = within_parts 31 65536 (false_by_default s.cert_req r.cert_req) _ nonce.1 in
     record {
+      version = first.0;
       imprint = second.0;
+      policy = policy.0;
       nonce = nonce.0;
-      extensions =
-          within_extension_list s.critical 29 65536 r.extensions (omega arith) flag.1;
+      extensions = λ tag low bit. within_extension_list tag s.critical 29 65536 r.extensions low bit (omega arith)
+          flag.1;
     }
 
 -- the optional components of a TSTInfo, one after the other
@@ -198,38 +196,26 @@ tst_within t h imprint nonce extensions name =
     (deeper 1 31 6 _ (within_flag false t.ordering) (omega arith))
     (within_before 31 65536 131087 (optional integer t.nonce) _ nonce
     (within_before 31 65546 65541 (optional tsa t.tsa) _ (within_tsa t.tsa name) extensions))) in
-    let after_accuracy = nodes (false_by_default false t.ordering
-    ++ (optional integer t.nonce ++ (optional tsa t.tsa ++ extensions_under 161 [] t.extensions))) in
-    let after_time = node (accuracy t.accuracy) after_accuracy in
-    let after_serial = node (generalized_time t.gen_time) after_time in
-    let after_imprint = node (integer (pos t.serial)) after_serial in
-    let after_policy = node (message_imprint t.imprint) after_imprint in
-    let after_version = node (object_identifier t.policy) after_policy in
     let up = λ (n : Node) (size : ℕ) (w : IsWithin 1 size n). wider 1 size 31 size n w (omega arith) (omega arith) in
-    let a = within_node 31 44 196629 (accuracy t.accuracy) after_accuracy
-    (wider 2 44 31 44 (accuracy t.accuracy) (within_accuracy t.accuracy h.most_accuracy) (omega arith)
-    (omega arith)) tail in
-    let b = within_node 31 27 196673 (generalized_time t.gen_time) after_time
-    (up (generalized_time t.gen_time) 27 (within_time t.gen_time h.gen_time)) a in
-    let c = within_node 31 13 196700 (integer (pos t.serial)) after_serial
-    (up (integer (pos t.serial)) 13 (within_number 2 t.serial (inl refl) (omega (arith, h.last_serial)))) b in
-    let d = within_node 31 65536 196713 (message_imprint t.imprint) after_imprint imprint c in
-    let e = within_node 31 613 262249 (object_identifier t.policy) after_policy
-    (up (object_identifier t.policy) 613 (within_oid t.policy h.policy)) d in
-    let f = within_node 31 13 262862 (integer (pos 1)) after_version
-    (up (integer (pos 1)) 13 (within_number 2 1 (inl refl) (omega arith))) e in
-    let whole = within_constructed 48 31 262875 (node (integer (pos 1)) after_version) (omega arith, omega arith) refl f
-    (omega arith) in
+    let accurate = wider 2 44 31 44 _ (within_accuracy t.accuracy h.most_accuracy) (omega arith) (omega arith) in
+    let a = within_node 31 44 196629 _ _ accurate tail in
+    let b = within_node 31 27 196673 _ _ (up _ 27 (within_time t.gen_time h.gen_time)) a in
+    let serial = within_number 2 t.serial (inl refl) (omega (arith, h.last_serial)) in
+    let d = within_node 31 65536 196713 _ _ imprint (within_node 31 13 196700 _ _ (up _ 13 serial) b) in
+    let e = within_node 31 613 262249 _ _ (up _ 613 (within_oid t.policy h.policy)) d in
+    let f = within_node 31 13 262862 _ _ (up _ 13 (within_number 2 1 (inl refl) (omega arith))) e in
+    let whole = within_constructed 48 31 262875 _ (omega arith, omega arith) refl f (omega arith) in
     record { formed = whole.formed; depth = whole.deep }
 
 pub tst_is_lawful : (octets : List ℕ) (r : RequestValue) (t : TstValue) → Spells octets r → length octets ≤ 65536
     → IsTst t → t.imprint ≡ r.imprint → t.nonce ≡ r.nonce → t.extensions ≡ r.extensions → IfSome t.tsa IsTsaName
     → IsLawful (tst_info t)
 tst_is_lawful octets r t spells short h i n x name =
-    let parts = repeats spells.stated r spells.lawful (omega (arith, short, ap length spells.spelled)) in
+    let parts = parts_of octets r spells short in
     tst_within t h (subst (λ v. IsWithin 31 65536 (message_imprint v)) (sym i) parts.imprint)
     (subst (λ v. AreWithin 31 65536 (nodes (optional integer v))) (sym n) parts.nonce)
-    (subst (λ v. AreWithin 31 65541 (nodes (extensions_under 161 [] v))) (sym x) parts.extensions) name
+    (subst (λ v. AreWithin 31 65541 (nodes (extensions_under 161 [] v))) (sym x)
+    (parts.extensions 161 (omega arith, omega arith) refl)) name
 
 -- a name for which there is room is a Name
 fitting_is_name : (name : Option Node) → IfSome name IsTsaName → IfSome name IsName
@@ -278,49 +264,18 @@ answer_is_lawful octets r spells short policy serial gen_time accuracy ordering 
           refl n,
     )
 
--- the extensions of a request, without stated FALSEs
-within_extension_list_request : (stated : List Bool) (depth size : ℕ) (es : List ExtensionValue) → size < 16777216
-    → AreWithin (suc (suc depth)) size (nodes (extensions_under 160 stated es))
-    → AreWithin (suc (suc depth)) (size + 5) (nodes (extensions_under 160 [] es))
-within_extension_list_request stated depth size [] small h =
-    record { formed = tt; deep = omega arith; long = omega arith }
-within_extension_list_request stated depth size (e ∷ es) small h =
-    let list = within_first (suc (suc depth)) size (constructed 160 (nodes (extension_nodes stated (e ∷ es)))) no_nodes
-    h in
-    let inside = within_components 160 (suc depth) size (nodes (extension_nodes stated (e ∷ es))) list.0 in
-    let new = within_constructed 160 (suc depth) size (nodes (extension_nodes [] (e ∷ es))) (omega arith, omega arith)
-    refl (within_extensions stated depth size (e ∷ es) inside) small in
-    let one = within_node (suc (suc depth)) (size + 5) 0 (constructed 160 (nodes (extension_nodes [] (e ∷ es))))
-    no_nodes new (within_none (suc (suc depth))) in
-    record { formed = one.formed; deep = one.deep; long = omega (arith, one.long) }
-
 -- what is read from at most 65,536 octets is lawful without its stated FALSEs
 pub unstated_is_lawful : (octets : List ℕ) (r : RequestValue) → Spells octets r → length octets ≤ 65536
     → IsLawful (time_stamp_req unstated r)
 unstated_is_lawful octets r spells short =
-    let s = spells.stated in
-    let whole : IsWithin 32 65536 (time_stamp_req s r) =
-    record {
-      formed = spells.lawful.formed;
-      deep = spells.lawful.depth;
-      long =
-          omega (arith, short, ap length spells.spelled);
-    } in
-    let inside = within_components 48 31 65536 _ whole in
-    let first = within_first 31 65536 (integer r.version) _ inside in
-    let second = within_first 31 65536 (message_imprint r.imprint) _ first.1 in
-    let tail = subst (AreWithin 31 65536) (request_tail s r) second.1 in
-    let policy = within_parts 31 65536 (optional object_identifier r.policy) _ tail in
-    let nonce = within_parts 31 65536 (optional integer r.nonce) _ policy.1 in
-    let flag = within_parts 31 65536 (false_by_default s.cert_req r.cert_req) _ nonce.1 in
-    let list = within_extension_list_request s.critical 29 65536 r.extensions (omega arith) flag.1 in
+    let parts = parts_of octets r spells short in
     let a = within_before 31 6 65541 (false_by_default false r.cert_req) _
-    (deeper 1 31 6 _ (within_flag false r.cert_req) (omega arith)) list in
-    let b = within_before 31 65536 65547 (optional integer r.nonce) _ nonce.0 a in
-    let c = within_before 31 65536 131083 (optional object_identifier r.policy) _ policy.0 b in
+    (deeper 1 31 6 _ (within_flag false r.cert_req) (omega arith))
+    (parts.extensions 160 (omega arith, omega arith) refl) in
+    let b = within_before 31 65536 65547 (optional integer r.nonce) _ parts.nonce a in
+    let c = within_before 31 65536 131083 (optional object_identifier r.policy) _ parts.policy b in
     let d = subst (AreWithin 31 196619) (sym (request_tail unstated r)) c in
-    let e = within_node 31 65536 196619 (message_imprint r.imprint) _ second.0 d in
-    let f = within_node 31 65536 262155 (integer r.version) _ first.0 e in
+    let f = within_node 31 65536 262155 _ _ parts.version (within_node 31 65536 196619 _ _ parts.imprint d) in
     let all = within_constructed 48 31 327691 _ (omega arith, omega arith) refl f (omega arith) in
     record { formed = all.formed; depth = all.deep }
 
@@ -335,17 +290,13 @@ within_sha256 : (digest : List ℕ) (cert_req : Bool) → AreOctets digest → l
 within_sha256 digest cert_req octets short =
     let null = within_primitive 5 0 [] (omega arith, omega arith) refl tt (omega arith) (omega arith) in
     let parameters = within_node 1 5 0 (primitive 5 []) no_nodes null (within_none 1) in
-    let identifier = within_node 1 613 5 (object_identifier sha256_identifier) _
-    (within_oid sha256_identifier sha256_is_oid) parameters in
+    let identifier = within_node 1 613 5 _ _ (within_oid sha256_identifier sha256_is_oid) parameters in
     let algorithm = within_constructed 48 1 618 _ (omega arith, omega arith) refl identifier (omega arith) in
     let string = within_primitive 4 32 digest (omega arith, omega arith) refl octets short (omega arith) in
-    let hash = within_node 2 37 0 (octet_string digest) no_nodes (wider 1 37 2 37 _ string (omega arith) (omega arith))
-    (within_none 2) in
-    let both = within_node 2 623 37 (sequence (object_identifier sha256_identifier ∷ primitive 5 [] ∷ [])) _ algorithm
-    hash in
+    let wide = wider 1 37 2 37 _ string (omega arith) (omega arith) in
+    let both = within_node 2 623 37 _ _ algorithm (within_node 2 37 0 _ no_nodes wide (within_none 2)) in
     let imprint = within_constructed 48 2 660 _ (omega arith, omega arith) refl both (omega arith) in
-    let rest = within_node 3 665 6 (message_imprint (sha256_request digest cert_req).imprint) _ imprint
-    (within_flag_alone cert_req) in
+    let rest = within_node 3 665 6 _ _ imprint (within_flag_alone cert_req) in
     let version = wider 1 13 3 13 _ (within_number 2 1 (inl refl) (omega arith)) (omega arith) (omega arith) in
     let all = within_node 3 13 671 (integer (pos 1)) _ version rest in
     within_constructed 48 3 684 _ (omega arith, omega arith) refl all (omega arith)

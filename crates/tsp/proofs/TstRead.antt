@@ -1,21 +1,13 @@
 -- What is read from a lawful value is the TSTInfo whose octets they are.
 use Rattle.std.proofs.Common.{◌≡◌, ℕ, ◌≤◌, [], ◌++◌, List, Option, Some, None, refl, sym, ap, ◌∙◌, subst, arith}
-use Rattle.std.specs.Option.{IfSome, MatchOption}
-use Rattle.std.specs.List.{AllByRecursion}
+use Rattle.std.specs.{Option.IfSome, Option.MatchOption, List.AllByRecursion}
 use Rattle.std.proofs.lemmas.Option.{same_Some, none-some}
-use Rattle.der.specs.Node.{Node, IsFormed}
-use Rattle.der.specs.ObjectIdentifier.{IsOid}
-use Rattle.gentime.specs.GenTime.{last_moment, text_of}
-use Rattle.der.proofs.ReadingNodes.{encoding_ends}
-use Rattle.gentime.proofs.Moments.{same_text}
-use Rattle.tsp.specs.Tst.{TstValue, IsName, IsTst, SpellsTst, tst_info}
-use Rattle.tsp.specs.TstParser.{TstParts, parts_of, parts_in, info_of}
-use Rattle.tsp.specs.TstView.{parts_view}
-use Rattle.tsp.specs.View.{tst_view}
-use Rattle.tsp.specs.declared.tst.TstInfo.{TstInfo}
-use Rattle.tsp.specs.declared.tst_parser.Parts.{Parts}
-use Rattle.tsp.proofs.TstReads.{IsHead, parts_of-info_of}
-use Rattle.tsp.proofs.TstTakes.{parts_takes}
+use Rattle.der.{specs.Node.Node, specs.Node.IsFormed, specs.ObjectIdentifier.IsOid, proofs.ReadingNodes.encoding_ends}
+use Rattle.gentime.{specs.GenTime.last_moment, specs.GenTime.text_of, proofs.Moments.same_text}
+use Rattle.tsp.specs.{Tst.TstValue, Tst.IsName, Tst.IsTst, Tst.SpellsTst, Tst.tst_info, declared.tst.TstInfo.TstInfo}
+use Rattle.tsp.specs.{declared.tst_parser.Parts.Parts, auxiliary.TstView.parts_view, View.tst_view}
+use Rattle.tsp.specs.auxiliary.TstParser.{TstParts, parts_of, parts_in, info_of}
+use Rattle.tsp.proofs.{TstReads.IsHead, TstReads.parts_of-info_of, TstTakes.parts_takes}
 
 pub written_from_read : (n : Node) (p : TstParts) (t : TstValue) → IsFormed n → parts_of n ≡ Some p → parts_in t ≡ p
     → t.gen_time ≤ last_moment → IsTst t × (n ≡ tst_info t)

@@ -1,22 +1,17 @@
 -- What the grammar gives for a TSTInfo is read as its parts.
 use Rattle.std.proofs.Common.{◌≡◌, ℕ, zero, suc, ◌+◌, ◌*◌, ◌/◌, ◌%◌, ◌<◌, ◌≤◌, true, false, ltb, leb, pos, [], ◌∷◌}
 use Rattle.std.proofs.Common.{◌++◌, Option, Some, None, refl, sym, ap, ◌∙◌, arith}
-use Rattle.std.specs.List.{AllByRecursion}
-use Rattle.std.specs.Option.{IfSome}
-use Rattle.std.proofs.lemmas.Bool.Decides.{nat_tests}
-use Rattle.std.proofs.lemmas.Bool.{eq-eqb}
+use Rattle.std.specs.{List.AllByRecursion, Option.IfSome}
+use Rattle.std.proofs.lemmas.Bool.{Decides.nat_tests, eq-eqb}
 use borrow.Author.Tests.{ne_eqb}
 use Rattle.der.specs.Node.{Node, primitive, Nodes, no_nodes, node}
-use Rattle.der.specs.Tree.{nodes}
-use Rattle.der.specs.Number.{number_content}
-use Rattle.der.specs.ObjectIdentifier.{IsOid}
+use Rattle.der.specs.{Tree.nodes, Number.number_content, ObjectIdentifier.IsOid}
 use Rattle.der.proofs.NumberContents.{twos_value-number_content, is_shortest-number_content}
 use Rattle.tsp.specs.Grammar.{integer, object_identifier, optional, false_by_default}
-use Rattle.tsp.specs.Request.{message_imprint, extensions_under}
-use Rattle.tsp.specs.Tst.{IsName, accuracy_part, accuracy, tsa}
-use Rattle.tsp.specs.Parser.{integer_value_of, integer_of, only, end_of}
-use Rattle.tsp.specs.TstParser.{TstHead, TstParts, natural, natural_of, up_to, number_in, part_at, accuracy_of}
-use Rattle.tsp.specs.TstParser.{head_of, explicit_of, name_of, tsa_of, parts_of, info_of}
+use Rattle.tsp.specs.{Request.message_imprint, Request.extensions_under, Tst.IsName, Tst.accuracy_part, Tst.accuracy}
+use Rattle.tsp.specs.{Tst.tsa, Parser.integer_value_of, Parser.integer_of, Parser.only, Parser.end_of}
+use Rattle.tsp.specs.auxiliary.TstParser.{TstHead, TstParts, natural, natural_of, up_to, number_in, part_at}
+use Rattle.tsp.specs.auxiliary.TstParser.{accuracy_of, head_of, explicit_of, name_of, tsa_of, parts_of, info_of}
 use Rattle.tsp.proofs.Components.{before, nodes-append}
 use Rattle.tsp.proofs.RequestReads.{before-none, integer_of-integer, oid_in-object_identifier}
 use Rattle.tsp.proofs.RequestReads.{imprint_of-message_imprint, optional_at-some, optional_at-none}

@@ -1,22 +1,16 @@
 -- What is read as a TSTInfo's parts is what the grammar gives for them.
 use Rattle.std.proofs.Common.{◌≡◌, ℕ, ◌+◌, ◌*◌, ◌/◌, ◌%◌, ◌≤◌, Bool, true, false, ltb, leb, ◌&&◌, ℤ, pos, negsuc, List}
 use Rattle.std.proofs.Common.{[], ◌∷◌, ◌++◌, Option, Some, None, ◌⊎◌, inl, inr, refl, sym, ap, ◌∙◌, subst, arith}
-use Rattle.std.specs.Option.{option_and_then, unwrap_or, IfSome}
-use Rattle.std.specs.List.{AllByRecursion}
-use Rattle.std.proofs.lemmas.Option.{option_and_then_some, cond_some}
-use Rattle.std.proofs.lemmas.Bool.{leb-true}
+use Rattle.std.specs.{Option.option_and_then, Option.unwrap_or, Option.IfSome, List.AllByRecursion}
+use Rattle.std.proofs.lemmas.{Option.option_and_then_some, Option.cond_some, Bool.leb-true}
 use Rattle.der.specs.Node.{Node, primitive, constructed, Nodes, no_nodes, node, contents_of, components_of, first_of}
-use Rattle.der.specs.Node.{IsFormed, AreFormed}
-use Rattle.der.specs.Tree.{nodes}
-use Rattle.der.specs.Number.{number_content}
-use Rattle.der.specs.ObjectIdentifier.{IsOid}
+use Rattle.der.specs.{Node.IsFormed, Node.AreFormed, ObjectIdentifier.IsOid, Tree.nodes, Number.number_content}
 use Rattle.tsp.specs.Grammar.{integer, object_identifier, sequence, optional, false_by_default}
 use Rattle.tsp.specs.Request.{ExtensionValue, message_imprint, extension, extension_nodes, extensions_under}
-use Rattle.tsp.specs.Tst.{IsName, accuracy_part, accuracy, tsa}
+use Rattle.tsp.specs.{Tst.IsName, Tst.accuracy_part, Tst.accuracy, Tst.tsa, Parser.extensions_at}
 use Rattle.tsp.specs.Parser.{integer_value_of, integer_of, oid_in, only, imprint_of, optional_at, flag_at}
-use Rattle.tsp.specs.Parser.{extensions_at}
-use Rattle.tsp.specs.TstParser.{TstHead, TstParts, natural, natural_of, up_to, number_in, part_at, accuracy_of}
-use Rattle.tsp.specs.TstParser.{head_of, explicit_of, name_of, tsa_of, parts_of, info_of}
+use Rattle.tsp.specs.auxiliary.TstParser.{TstHead, TstParts, natural, natural_of, up_to, number_in, part_at}
+use Rattle.tsp.specs.auxiliary.TstParser.{accuracy_of, head_of, explicit_of, name_of, tsa_of, parts_of, info_of}
 use Rattle.tsp.proofs.Components.{before, contents_takes, components_takes, front_takes}
 use Rattle.tsp.proofs.RequestReads.{before-none, IsAllowed}
 use Rattle.tsp.proofs.RequestTakes.{number_takes, integer_takes, oid_takes, imprint_takes, only_takes}

@@ -1,14 +1,10 @@
 -- The octets of a TSTInfo, part by part.
 use Rattle.std.proofs.Common.{◌≡◌, ℕ, false, pos, List, [], ◌∷◌, ◌++◌, refl, sym, ap, ◌∙◌, append_assoc}
 use Rattle.der.specs.Node.{Node, Nodes, node, element, encoding, encodings}
-use Rattle.der.specs.Tree.{nodes}
-use Rattle.der.specs.Number.{number_content}
-use Rattle.der.specs.ObjectIdentifier.{oid_content}
+use Rattle.der.specs.{Tree.nodes, Number.number_content, ObjectIdentifier.oid_content}
 use Rattle.tsp.specs.Grammar.{integer, object_identifier, optional, false_by_default}
-use Rattle.tsp.specs.Request.{message_imprint, extensions_under}
-use Rattle.tsp.specs.Tst.{TstValue, accuracy, generalized_time, tsa}
-use Rattle.tsp.proofs.Components.{before}
-use Rattle.tsp.proofs.TstLawful.{tst_tail}
+use Rattle.tsp.{specs.Request.message_imprint, specs.Request.extensions_under, specs.Tst.TstValue, specs.Tst.accuracy}
+use Rattle.tsp.{specs.Tst.generalized_time, specs.Tst.tsa, proofs.Components.before, proofs.TstLawful.tst_tail}
 
 pub encodings-before : (xs : List Node) (rest : Nodes)
     → encodings (before xs rest) ≡ encodings (nodes xs) ++ encodings rest

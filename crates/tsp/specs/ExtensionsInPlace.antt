@@ -1,8 +1,7 @@
 -- Extensions where their encodings lie.
 use Rattle.std.specs.Prelude.{◌≡◌, true, List, [], Some, unwrap_or}
 use Rattle.der.specs.Node.{Nodes}
-use Rattle.tsp.specs.Parser.{extensions_of}
-use Rattle.tsp.specs.Request.{ExtensionValue}
+use Rattle.tsp.specs.{Parser.extensions_of, Request.ExtensionValue}
 
 -- the extensions that values are, one after the other; a FALSE may be stated
 unfoldable pub extensions_in : Nodes → List ExtensionValue

@@ -1,7 +1,6 @@
 -- The numbers of the refusals.
 use Rattle.std.specs.Prelude.{ℕ}
-use Rattle.tsp.specs.declared.fault.TspFault.{TspFault}
-use Rattle.tsp.specs.declared.fault.TspFault.TheVariants.{Form, TooLong, Memory}
+use Rattle.tsp.specs.declared.fault.TspFault.{TspFault, TheVariants.Form, TheVariants.TooLong, TheVariants.Memory}
 
 abbrev pub number_of : TspFault → ℕ
 number_of Form = 1

@@ -1,9 +1,7 @@
 -- The values of which the messages are made (X.690 8.2, 8.3, 8.7, 8.9, 8.19, 11.1, 11.5).
 use Rattle.std.specs.Prelude.{ℕ, Bool, ◌||◌, if◌then◌else◌, ℤ, List, [], ◌∷◌, Option, Some, None}
 use Rattle.der.specs.Node.{Node, primitive, constructed}
-use Rattle.der.specs.Tree.{nodes}
-use Rattle.der.specs.Number.{number_content}
-use Rattle.der.specs.ObjectIdentifier.{oid_content}
+use Rattle.der.specs.{Tree.nodes, Number.number_content, ObjectIdentifier.oid_content}
 
 abbrev pub integer : ℤ → Node
 integer z = primitive 0x02 (number_content z)

@@ -6,9 +6,7 @@ pub mod Parser
 pub mod Rejection
 pub mod Request
 pub mod Rules
-pub mod RulesOfOctets
 pub mod Spellings
 pub mod Tst
-pub mod TstParser
-pub mod TstView
 pub mod View
+pub mod auxiliary

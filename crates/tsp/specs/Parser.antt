@@ -2,8 +2,7 @@
 use Rattle.std.specs.Prelude.{ℕ, ◌==◌, ◌||◌, Bool, true, false, if◌then◌else◌, ℤ, List, [], ◌∷◌, Option, Some, None}
 use Rattle.std.specs.Prelude.{option_and_then, unwrap_or}
 use Rattle.der.specs.Node.{Node, Nodes, no_nodes, node, contents_of, components_of, first_of, take_under}
-use Rattle.der.specs.Number.{is_shortest, twos_value}
-use Rattle.der.specs.ObjectIdentifier.{oid_of}
+use Rattle.der.specs.{Number.is_shortest, Number.twos_value, ObjectIdentifier.oid_of}
 use Rattle.tsp.specs.Request.{ImprintValue, ExtensionValue, RequestValue}
 
 infixl 10 ◌>>=◌

@@ -1,8 +1,7 @@
 -- The reply to a request that a rule refuses: TimeStampResp with status, statusString and failInfo (RFC 3161 2.4.2).
 use Rattle.std.specs.Prelude.{ℕ, ◌+◌, ◌-◌, ◌/◌, ◌%◌, ◌^◌, pos, List, [], ◌∷◌, ◌++◌, codes, replicate}
 use Rattle.der.specs.Node.{Node, primitive}
-use Rattle.tsp.specs.Grammar.{sequence, integer}
-use Rattle.tsp.specs.declared.rule.Rule.{Rule}
+use Rattle.tsp.specs.{Grammar.sequence, Grammar.integer, declared.rule.Rule.Rule}
 use Rattle.tsp.specs.declared.rule.Rule.TheVariants.{Spelling, Version, Account, Algorithm, HashLength, Policy}
 use Rattle.tsp.specs.declared.rule.Rule.TheVariants.{PolicyAlgorithm, Extensions, Certificate, Clock, Quota, System}
 

@@ -2,9 +2,8 @@
 use Rattle.std.specs.Prelude.{◌≡◌, ℕ, Bool, false, ℤ, pos, List, [], ◌∷◌, ◌++◌, Option, Some, None, IfSome}
 use Rattle.std.specs.List.{AllByRecursion}
 use Rattle.der.specs.Node.{Node, primitive, constructed, encoding, IsLawful}
-use Rattle.der.specs.ObjectIdentifier.{IsOid}
+use Rattle.der.specs.{ObjectIdentifier.IsOid, Tree.nodes}
 use Rattle.tsp.specs.Grammar.{sequence, integer, object_identifier, octet_string, optional, false_by_default}
-use Rattle.der.specs.Tree.{nodes}
 
 -- what was hashed is known by its digest: MessageImprint, with the algorithm of an AlgorithmIdentifier and its
 -- parameters

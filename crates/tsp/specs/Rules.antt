@@ -2,10 +2,8 @@
 -- itself, and the first of them that fails.
 use Rattle.std.specs.Prelude.{◌≡◌, ℕ, ◌<◌, ◌≤◌, ◌⊎◌, pos, List, [], Some, None, length, Contains}
 use Rattle.der.specs.Node.{primitive}
-use Rattle.tsp.specs.Request.{RequestValue, Spells}
-use Rattle.tsp.specs.Rejection.{number_of}
-use Rattle.tsp.specs.declared.rule.Rule.{Rule}
-use Rattle.tsp.specs.declared.rule.Rule.TheVariants.{Spelling}
+use Rattle.tsp.specs.{Request.RequestValue, Request.Spells, Rejection.number_of}
+use Rattle.tsp.specs.declared.rule.Rule.{Rule, TheVariants.Spelling}
 
 -- a known hash algorithm, and how many octets its hashes have
 pub record AlgorithmValue : Type 0 where

@@ -1,8 +1,7 @@
 -- The octets that spell a request, part by part: which of them are free, and that nothing else is.
 use Rattle.std.specs.Prelude.{◌≡◌, ◌⊎◌, ℕ, Bool, true, false, List, [], ◌∷◌, ◌++◌}
 use Rattle.std.specs.List.{AllByRecursion}
-use Rattle.der.specs.Node.{element, encoding, encodings}
-use Rattle.der.specs.Tree.{nodes}
+use Rattle.der.specs.{Node.element, Node.encoding, Node.encodings, Tree.nodes}
 use Rattle.tsp.specs.Grammar.{integer, object_identifier, octet_string, optional}
 use Rattle.tsp.specs.Request.{ExtensionValue, RequestValue, message_imprint}
 

@@ -1,11 +1,8 @@
 -- TSTInfo (RFC 3161 2.4.2).
 use Rattle.std.specs.Prelude.{◌≡◌, ℕ, ◌/◌, ◌%◌, ◌^◌, ◌<◌, ◌≤◌, ◌==◌, Bool, false, if◌then◌else◌, ℤ, pos, List, [], ◌∷◌}
-use Rattle.std.specs.Prelude.{◌++◌, length, Option, IfSome}
-use Rattle.std.specs.List.{AllByRecursion}
-use Rattle.der.specs.Node.{Node, primitive, constructed, Nodes, no_nodes, node, encoding, levels, IsFormed}
-use Rattle.der.specs.Node.{IsLawful}
-use Rattle.der.specs.Number.{number_content}
-use Rattle.der.specs.ObjectIdentifier.{IsOid}
+use Rattle.std.specs.{Prelude.◌++◌, Prelude.length, Prelude.Option, Prelude.IfSome, List.AllByRecursion}
+use Rattle.der.specs.Node.{Node, primitive, constructed, Nodes, no_nodes, node, encoding, levels, IsFormed, IsLawful}
+use Rattle.der.specs.{Number.number_content, ObjectIdentifier.IsOid}
 use Rattle.gentime.specs.GenTime.{last_moment, text_of}
 use Rattle.tsp.specs.Grammar.{sequence, integer, object_identifier, optional, false_by_default}
 use Rattle.tsp.specs.Request.{ImprintValue, ExtensionValue, RequestValue, message_imprint, extensions_under}

@@ -2,11 +2,8 @@
 use Rattle.std.specs.Prelude.{option_map}
 use Rattle.der.specs.DataValueView.{value_view}
 use Rattle.tsp.specs.Request.{ImprintValue, ExtensionValue, RequestValue}
-use Rattle.tsp.specs.Tst.{TstValue}
-use Rattle.tsp.specs.declared.imprint.MessageImprint.{MessageImprint}
-use Rattle.tsp.specs.declared.extensions.Extension.{Extension}
-use Rattle.tsp.specs.declared.request.Request.{Request}
-use Rattle.tsp.specs.declared.tst.TstInfo.{TstInfo}
+use Rattle.tsp.specs.{Tst.TstValue, declared.request.Request.Request, declared.tst.TstInfo.TstInfo}
+use Rattle.tsp.specs.declared.{imprint.MessageImprint.MessageImprint, extensions.Extension.Extension}
 
 abbrev pub imprint_view : MessageImprint → ImprintValue
 imprint_view imprint = record {

@@ -1,14 +1,12 @@
 //! From messages to octets, from the inside outwards.
 ghost use Rattle.std.specs.Prelude.{◌≡◌, ◌≤◌, ◌<◌, ◌^◌, ◌++◌, false, [], length, option_map, OnOk, IfOk, IfErr};
 ghost use Rattle.der.specs.Node.{element, encoding, encodings, IsFormed, AreFormed, IsLawful};
-ghost use Rattle.der.specs.DataValueView.{value_view};
-ghost use Rattle.der.specs.Tree.{nodes};
+ghost use Rattle.der.specs.{DataValueView.value_view, Tree.nodes};
 ghost use Rattle.tsp.specs.Grammar.{integer, object_identifier, optional, false_by_default};
 ghost use Rattle.tsp.specs.Request.{time_stamp_req, unstated, algorithm_identifier, message_imprint, extension};
-ghost use Rattle.tsp.specs.Request.{extension_nodes, extensions_under};
-ghost use Rattle.tsp.specs.Tst.{IsTst, accuracy, accuracy_part, tsa, tst_info};
+ghost use Rattle.tsp.specs.{Request.extension_nodes, Request.extensions_under, Tst.IsTst, Tst.accuracy};
+ghost use Rattle.tsp.specs.{Tst.accuracy_part, Tst.tsa, Tst.tst_info, declared.fault.TspFault.TheVariants.Memory};
 ghost use Rattle.tsp.specs.View.{request_view, imprint_view, extension_view, tst_view};
-ghost use Rattle.tsp.specs.declared.fault.TspFault.TheVariants.{Memory};
 
 use crate::extensions::{Extension, Extensions};
 use crate::fault::TspFault;

@@ -2,8 +2,7 @@
 ghost use Rattle.std.specs.Prelude.{◌≡◌, ◌↔◌, [], IsTrue};
 ghost use Rattle.der.specs.DataValueView.{values_view};
 ghost use Rattle.std.specs.Iterator.{YieldsFirstBy, item_count};
-ghost use Rattle.tsp.specs.View.{extension_view};
-ghost use Rattle.tsp.specs.ExtensionsInPlace.{extensions_in, AreExtensions};
+ghost use Rattle.tsp.specs.{View.extension_view, ExtensionsInPlace.extensions_in, ExtensionsInPlace.AreExtensions};
 
 use crate::object_identifier::ObjectIdentifier;
 use crate::parser::extension_from;
@@ -72,6 +71,7 @@ impl<'a> Extensions<'a> {
     }
 
     /// Whether no extension is left.
+    #[tactic(auto, using(crate::proofs::ExtensionRuns::no_extensions, crate::proofs::ExtensionRuns::end_extensions))]
     pub fn is_empty(&self) -> bool
         ensures { IsTrue result ↔ (self.now ≡ []) }
     {

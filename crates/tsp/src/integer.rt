@@ -37,6 +37,7 @@ impl<'a> Integer<'a> {
     }
 
     /// The number 1.
+    #[tactic(auto, unfolding(der::specs::Number::number_content))]
     pub(crate) fn one() -> Integer<'a>
         ensures { result ≡ pos 1 }
     {

@@ -1,16 +1,13 @@
 //! Rules that are judged of a request, and of the octets that spell it.
 ghost use Rattle.std.specs.Prelude.{ℕ, ◌≤◌, List, length};
-ghost use Rattle.tsp.specs.Request.{RequestValue, Spells};
-ghost use Rattle.tsp.specs.Rules.{IsSpelled, HoldsOfOctets, IsFirstFailing};
-ghost use Rattle.tsp.specs.declared.rule.Rule.{Rule};
-ghost use Rattle.tsp.specs.declared.rule.Rule.TheVariants.{Spelling};
+ghost use Rattle.tsp.specs.{Request.RequestValue, Request.Spells, Rules.IsSpelled, Rules.HoldsOfOctets};
+ghost use Rattle.tsp.specs.{Rules.IsFirstFailing, declared.rule.Rule.Rule, declared.rule.Rule.TheVariants.Spelling};
 
 use crate::request::requests_have_one_reading;
 
 /// One who judges requests by rules of its own. It has no code: an `impl` says which rules hold of a request.
 pub trait JudgesRequests {
-    ghost use Rattle.tsp.specs.Request.{RequestValue};
-    ghost use Rattle.tsp.specs.declared.rule.Rule.{Rule};
+    ghost use Rattle.tsp.specs.{Request.RequestValue, declared.rule.Rule.Rule};
 
     ghost holds_of: { Self → RequestValue → Rule → Type 0 };
 }

@@ -1,9 +1,7 @@
 //! A message in the making.
 ghost use Rattle.std.specs.Prelude.{◌≡◌, ℕ, ◌<◌, ◌^◌, List, [], ◌++◌, pos, length, OnOk, IfErr};
-ghost use Rattle.der.specs.Node.{element, encoding};
-ghost use Rattle.der.specs.Number.{number_content};
-ghost use Rattle.tsp.specs.Tst.{generalized_time};
-ghost use Rattle.tsp.specs.declared.fault.TspFault.TheVariants.{Memory};
+ghost use Rattle.der.specs.{Node.element, Node.encoding, Number.number_content};
+ghost use Rattle.tsp.specs.{Tst.generalized_time, declared.fault.TspFault.TheVariants.Memory};
 
 use crate::fault::TspFault;
 use der::{DerFault, Tag, Writer, whole_number_content};

@@ -181,6 +181,7 @@ pub(crate) fn extension_from(may_state_false: bool, value: DataValue<'_>) -> Opt
 }
 
 /// Whether each value is an Extension.
+#[tactic(auto, using(crate::proofs::ExtensionRuns::are_extensions_laws))]
 fn are_extensions(may_state_false: bool, mut members: DataValues<'_>) -> bool
     ensures { result ≡ is_some (extensions_of may_state_false (values_view members.entry)) }
 {
@@ -193,7 +194,7 @@ fn are_extensions(may_state_false: bool, mut members: DataValues<'_>) -> bool
 }
 
 /// Extensions, at least one, under an implicit tag.
-#[tactic(auto, unfolding(crate::specs::Parser::extension_list_of, crate::specs::Parser::some_extensions))]
+#[tactic(auto, unfolding(crate::specs::Parser::extension_list_of, crate::specs::Parser::some_extensions), using(crate::proofs::ExtensionRuns::list_laws))]
 fn extension_list_from(
     may_state_false: bool,
     tag: Tag,

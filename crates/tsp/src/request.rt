@@ -1,16 +1,13 @@
-ghost use Rattle.std.specs.Prelude.{◌≡◌, ◌↔◌, ◌<◌, ◌≤◌, ◌^◌, ℕ, Bool, List, [], Option, Some, None, Err};
-ghost use Rattle.std.specs.Prelude.{option_map, length, IfOk, IfErr, IfSome, IsTrue, ◌⊎◌, MatchResult};
+ghost use Rattle.std.specs.Prelude.{◌≡◌, ◌↔◌, ◌<◌, ◌≤◌, ◌^◌, ℕ, Bool, List, [], Option, Some, None, Err, option_map};
+ghost use Rattle.std.specs.Prelude.{length, IfOk, IfErr, IfSome, IsTrue, ◌⊎◌, MatchResult};
 ghost use Rattle.der.specs.Node.{Node, primitive, encoding, AreOctets, IsLawful};
-ghost use Rattle.der.specs.Number.{number_content};
+ghost use Rattle.der.specs.{Number.number_content, DataValueView.value_view};
 ghost use Rattle.der.specs.ObjectIdentifier.{IsOid, oid_content};
-ghost use Rattle.der.specs.DataValueView.{value_view};
 ghost use Rattle.gentime.specs.GenTime.{last_moment};
-ghost use Rattle.tsp.specs.Parser.{request_of, only};
+ghost use Rattle.tsp.specs.{Parser.request_of, Parser.only, View.request_view, View.tst_view};
 ghost use Rattle.tsp.specs.Request.{RequestValue, IsRequest, unstated, time_stamp_req, sha256_request, Spells};
-ghost use Rattle.tsp.specs.Rules.{HasVersionOne, HasPlainParameters};
-ghost use Rattle.tsp.specs.Spellings.{HasNoFalse, AreRequest};
+ghost use Rattle.tsp.specs.{Rules.HasVersionOne, Rules.HasPlainParameters, Spellings.HasNoFalse, Spellings.AreRequest};
 ghost use Rattle.tsp.specs.Tst.{TstValue, IsTst, IsTsaName, tst_info, answer};
-ghost use Rattle.tsp.specs.View.{request_view, tst_view};
 ghost use Rattle.tsp.specs.declared.fault.TspFault.TheVariants.{Form, TooLong};
 
 use crate::extensions::Extensions;

@@ -1,17 +1,13 @@
 //! From octets to a TSTInfo.
-ghost use Rattle.std.specs.Prelude.{◌≡◌, ◌≤◌, ◌<◌, ℕ, List, length, Option, Some, None, option_map};
-ghost use Rattle.std.specs.Prelude.{IfOk, IfErr, IfSome, MatchOption, MatchResult};
-ghost use Rattle.std.specs.Int.Digits.{number_from_digits};
-ghost use Rattle.der.specs.Node.{IsFormed};
-ghost use Rattle.der.specs.DataValueView.{value_view, values_view};
+ghost use Rattle.std.specs.Prelude.{◌≡◌, ◌≤◌, ℕ, List, length, Option, Some, None, option_map, IfOk, IfErr, IfSome};
+ghost use Rattle.std.specs.{Prelude.MatchOption, Prelude.MatchResult, Int.Digits.number_from_digits};
+ghost use Rattle.der.specs.{Node.IsFormed, DataValueView.value_view, DataValueView.values_view};
 ghost use Rattle.gentime.specs.GenTime.{last_moment, text_of};
-ghost use Rattle.tsp.specs.Parser.{only, optional_at};
+ghost use Rattle.tsp.specs.{Parser.only, Parser.optional_at, View.tst_view, declared.fault.TspFault.TheVariants.Form};
 ghost use Rattle.tsp.specs.Tst.{TstValue, IsTst, SpellsTst, tst_info};
-ghost use Rattle.tsp.specs.TstParser.{parts_in, natural, natural_of, up_to, number_in, part_at, accuracy_of, head_of};
-ghost use Rattle.tsp.specs.TstParser.{explicit_of, name_of, tsa_of, parts_of};
-ghost use Rattle.tsp.specs.TstView.{head_view, parts_view};
-ghost use Rattle.tsp.specs.View.{tst_view};
-ghost use Rattle.tsp.specs.declared.fault.TspFault.TheVariants.{Form};
+ghost use Rattle.tsp.specs.auxiliary.TstParser.{parts_in, natural, natural_of, up_to, number_in, part_at, accuracy_of};
+ghost use Rattle.tsp.specs.auxiliary.TstParser.{head_of, explicit_of, name_of, tsa_of, parts_of};
+ghost use Rattle.tsp.specs.auxiliary.TstView.{head_view, parts_view};
 
 use crate::extensions::Extensions;
 use crate::fault::TspFault;
@@ -102,6 +98,7 @@ fn tst_from(parts: Parts<'_>) -> Option<TstInfo<'_>>
 }
 
 /// The number that at most eight octets are in base 256.
+#[tactic(auto, using(crate::proofs::Natural::prefix_small))]
 fn number_from(octets: &[u8]) -> u64
     requires { length octets.now ≤ 8 }
     ensures { result ≡ number_from_digits 256 octets.now }
@@ -114,6 +111,7 @@ fn number_from(octets: &[u8]) -> u64
 }
 
 /// A number from 0 to 2^63 - 1, by its contents octets.
+#[tactic(auto, using(crate::proofs::Natural::natural_laws))]
 fn natural(octets: &[u8]) -> Option<u64>
     ensures { result ≡ natural_of octets.now }
 {
@@ -129,7 +127,7 @@ fn natural(octets: &[u8]) -> Option<u64>
 }
 
 /// The number where it is from 1 to a greatest one.
-#[tactic(auto, unfolding(crate::specs::TstParser::up_to))]
+#[tactic(auto, unfolding(crate::specs::auxiliary::TstParser::up_to))]
 fn up_to(most: u64, number: u64) -> Option<u64>
     ensures read { result ≡ up_to most number }
     ensures bound { IfSome result (λ found. found ≤ most) }
@@ -142,7 +140,7 @@ fn up_to(most: u64, number: u64) -> Option<u64>
 }
 
 /// A number under a tag, from 1 to a greatest one.
-#[tactic(auto, unfolding(crate::specs::TstParser::number_in))]
+#[tactic(auto, unfolding(crate::specs::auxiliary::TstParser::number_in))]
 fn number_in(tag: Tag, most: u64, value: DataValue<'_>) -> Option<u64>
     ensures { result ≡ number_in tag.octet most (value_view value.entry) }
 {
@@ -152,7 +150,7 @@ fn number_in(tag: Tag, most: u64, value: DataValue<'_>) -> Option<u64>
 }
 
 /// A part of an accuracy, 0 where it is left away.
-#[tactic(auto, unfolding(crate::specs::Parser::optional_at, crate::specs::TstParser::part_at))]
+#[tactic(auto, unfolding(crate::specs::Parser::optional_at, crate::specs::auxiliary::TstParser::part_at), using(crate::proofs::TstTakes::number_in_bound))]
 fn read_part(tag: Tag, most: u64, members: &mut DataValues<'_>) -> Option<u64>
     ensures read { option_map (λ found. (found, values_view members.new)) result
         ≡ part_at tag.octet most (values_view members.old) }
@@ -165,7 +163,7 @@ fn read_part(tag: Tag, most: u64, members: &mut DataValues<'_>) -> Option<u64>
 }
 
 /// An Accuracy, in microseconds.
-#[tactic(auto, unfolding(crate::specs::TstParser::accuracy_of, crate::specs::Parser::only))]
+#[tactic(auto, unfolding(crate::specs::auxiliary::TstParser::accuracy_of, crate::specs::Parser::only))]
 fn accuracy_from(value: DataValue<'_>) -> Option<u32>
     ensures { result ≡ accuracy_of (value_view value.entry) }
 {
@@ -178,7 +176,7 @@ fn accuracy_from(value: DataValue<'_>) -> Option<u32>
     Some(accuracy as u32)
 }
 
-#[tactic(auto, unfolding(crate::specs::TstParser::head_of))]
+#[tactic(auto, unfolding(crate::specs::auxiliary::TstParser::head_of))]
 fn read_head<'a>(rest: &mut DataValues<'a>) -> Option<Head<'a>>
     ensures { option_map (λ found. (head_view found, values_view rest.new)) result
         ≡ head_of (values_view rest.old) }
@@ -217,7 +215,7 @@ fn read_head<'a>(rest: &mut DataValues<'a>) -> Option<Head<'a>>
 }
 
 /// The one value under an explicit tag.
-#[tactic(auto, unfolding(crate::specs::TstParser::explicit_of, crate::specs::Parser::only))]
+#[tactic(auto, unfolding(crate::specs::auxiliary::TstParser::explicit_of, crate::specs::Parser::only))]
 fn explicit(tag: Tag, value: DataValue<'_>) -> Option<DataValue<'_>>
     ensures { option_map value_view result ≡ explicit_of tag.octet (value_view value.entry) }
 {
@@ -228,7 +226,7 @@ fn explicit(tag: Tag, value: DataValue<'_>) -> Option<DataValue<'_>>
 }
 
 /// A Name, which is a SEQUENCE (RFC 5280 4.1.2.4).
-#[tactic(auto, unfolding(crate::specs::TstParser::name_of))]
+#[tactic(auto, unfolding(crate::specs::auxiliary::TstParser::name_of))]
 fn name_from(value: DataValue<'_>) -> Option<DataValue<'_>>
     ensures { option_map value_view result ≡ name_of (value_view value.entry) }
 {
@@ -237,7 +235,7 @@ fn name_from(value: DataValue<'_>) -> Option<DataValue<'_>>
 }
 
 /// The Name that the field tsa has: a GeneralName of the kind directoryName (RFC 5280 4.2.1.6).
-#[tactic(auto, unfolding(crate::specs::TstParser::tsa_of))]
+#[tactic(auto, unfolding(crate::specs::auxiliary::TstParser::tsa_of))]
 fn tsa_from(value: DataValue<'_>) -> Option<DataValue<'_>>
     ensures { option_map value_view result ≡ tsa_of (value_view value.entry) }
 {
@@ -258,7 +256,7 @@ fn optional_tsa<'a>(members: &mut DataValues<'a>) -> Option<Option<DataValue<'a>
     }
 }
 
-#[tactic(auto, unfolding(crate::specs::TstParser::parts_of, crate::specs::Parser::only))]
+#[tactic(auto, unfolding(crate::specs::auxiliary::TstParser::parts_of, crate::specs::Parser::only))]
 fn parts_from(value: DataValue<'_>) -> Option<Parts<'_>>
     ensures { option_map parts_view result ≡ parts_of (value_view value.entry) }
 {

@@ -1,5 +1,5 @@
 use Rattle.std.proofs.Common.{map}
-use Rattle.cms.proofs.Chains.{all_taken, at_this_entry, none_taken, one_taken, only_memory, refused_so, whole_chain}
+use Rattle.cms.proofs.Chains.{all_taken, at_this_entry, one_taken, only_memory, refused_so}
 use Rattle.cms.proofs.chain.certificates_of.Goals as goal
 
 pub returns-in_err-rest-clause-only : goal.returns-in_err-rest-clause-only
@@ -16,10 +16,6 @@ returns-in_err-rest-clause-err c =
     (at_this_entry c.args.signer.now c.args.chain.now _ c.loop-rest.rest.now c.in_err-rest.field-0.0
     c.loop-rest.invariant c.loop-rest-test.ensures c.in_err-rest.ensures.err)
 
-pub loop-rest-init : goal.loop-rest-init
-loop-rest-init c =
-    rw (c.in_ok-push.ensures.items, c.new-certificates.ensures.items) (none_taken c.args.signer.now c.args.chain.now)
-
 pub loop-rest-preserved : goal.loop-rest-preserved
 loop-rest-preserved c =
     one_taken c.args.signer.now c.args.chain.now (map (λ o. o.now) c.loop-rest.certificates.items)
@@ -30,7 +26,3 @@ pub returns-clause-only : goal.returns-clause-only
 returns-clause-only c = λ further fits is.
     all_taken c.args.signer.now c.args.chain.now (map (λ o. o.now) c.loop-rest.certificates.items) further
     c.loop-rest.rest.now c.elements_have_one_beginning.ensures c.loop-rest.invariant c.loop-rest-test.ensures fits is
-
-pub returns-clause-ok : goal.returns-clause-ok
-returns-clause-ok c =
-    whole_chain c.args.signer.now c.args.chain.now _ c.loop-rest.rest.now c.loop-rest.invariant c.loop-rest-test.ensures

@@ -1,5 +1,4 @@
-use Rattle.std.proofs.Common.{◌≡◌, ◌++◌, map, drop}
-use Rattle.std.specs.List.{AllByRecursion}
+use Rattle.std.{proofs.Common.◌≡◌, proofs.Common.◌++◌, proofs.Common.map, proofs.Common.drop, specs.List.AllByRecursion}
 use Rattle.cms.specs.Framed.{frames, IsShort}
 use Rattle.cms.proofs.frames.frames_of.Given as goal
 

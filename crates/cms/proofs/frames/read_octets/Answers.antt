@@ -1,8 +1,7 @@
-use Rattle.std.proofs.Common.{◌≡◌, ℕ, ◌+◌, ◌-◌, ◌≤◌, List, [], ◌++◌, rules, arith, length, take, slice_range, sym}
-use Rattle.std.proofs.Common.{ap, ◌∙◌, subst, le_refl, drop_at, length-take-le, append-nil, refl}
-use Rattle.std.proofs.lemmas.Slice.{take-put_mid_below}
+use Rattle.std.proofs.Common.{◌≡◌, ℕ, ◌+◌, ◌-◌, ◌≤◌, List, [], ◌++◌, rules, arith, length, take, slice_range, sym, ap}
+use Rattle.std.proofs.Common.{◌∙◌, subst, le_refl, drop_at, length-take-le, append-nil}
+use Rattle.std.proofs.{lemmas.Slice.take-put_mid_below, KnownBytes.Consumes-trans, KnownBytes.Consumes-kept}
 use Rattle.std.specs.Io.KnownBytes.{Consumes}
-use Rattle.std.proofs.KnownBytes.{Consumes-trans, Consumes-kept, Consumes-nil}
 use borrow.Rule.Slice.PartMut.{put_mid, post_of}
 use lib.Seq.{take-add, take-append-le}
 use Rattle.cms.proofs.frames.read_octets.Goals as goal
@@ -61,9 +60,3 @@ returns-in-Ok-eq0-clause-err g c =
       omega (arith, filled, c.loop-filled.invariant.0, c.loop-filled-test.true),
       subst (Consumes _ _) same (Consumes-trans _ _ _ _ _ c.loop-filled.invariant.2 c.in-Ok-eq0.ensures.bytes.0),
     )
-
-pub loop-filled-init : goal.loop-filled-init
-loop-filled-init g c = (refl, omega arith, Consumes-nil _, λ i. omega (arith, c.type_inv.octets i))
-
-pub returns-clause-octets : goal.returns-clause-octets
-returns-clause-octets g c = c.loop-filled.invariant.3

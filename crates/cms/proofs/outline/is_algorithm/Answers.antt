@@ -1,8 +1,7 @@
 use Rattle.std.proofs.Common.{◌≡◌, true, Some, rules, sym, ◌∙◌}
 use Rattle.std.specs.Option.{is_some}
 use Rattle.der.specs.DataValueView.{value_view}
-use Rattle.cms.specs.Certificate.{algorithm_identifier}
-use Rattle.cms.specs.Outline.{algorithm_of}
+use Rattle.cms.specs.{Certificate.algorithm_identifier, auxiliary.Outline.algorithm_of}
 use Rattle.cms.proofs.Outlines.{accepted, algorithm_found, algorithm_only}
 use Rattle.cms.proofs.outline.is_algorithm.Goals as goal
 

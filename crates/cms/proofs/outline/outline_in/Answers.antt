@@ -1,6 +1,5 @@
 use Rattle.der.specs.DataValueView.{value_view}
-use Rattle.cms.specs.Certificate.{certificate}
-use Rattle.cms.specs.OutlineView.{outline_view}
+use Rattle.cms.specs.{Certificate.certificate, auxiliary.OutlineView.outline_view}
 use Rattle.cms.proofs.Outlines.{outline_found, outline_only}
 use Rattle.cms.proofs.outline.outline_in.Goals as goal
 

@@ -1,8 +1,7 @@
 use Rattle.std.proofs.Common.{ap, ◌∙◌}
 use Rattle.der.specs.Node.{encoding, encodings}
-use Rattle.cms.specs.Certificate.{serial_number, issuer_name, subject_name, after_serial}
-use Rattle.cms.specs.Certificate.{after_issuer, certificate}
-use Rattle.cms.specs.Outline.{Outline}
+use Rattle.cms.specs.Certificate.{serial_number, issuer_name, subject_name, after_serial, after_issuer, certificate}
+use Rattle.cms.specs.auxiliary.Outline.{Outline}
 use Rattle.cms.proofs.Places.{place_is, place_fits, issuer_stands, serial_stands, subject_stands}
 use Rattle.cms.proofs.place.places_in.Goals as goal
 

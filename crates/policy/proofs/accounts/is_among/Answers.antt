@@ -1,7 +1,6 @@
 use Rattle.std.proofs.Common.{◌≡◌, rules, tests}
 use Rattle.std.proofs.lemmas.Iterator.{YieldsList-from_slice, cases_from_any}
-use Rattle.policy.specs.View.{account_view}
-use Rattle.policy.proofs.Among.{tells_among}
+use Rattle.policy.{specs.View.account_view, proofs.Among.tells_among}
 use Rattle.policy.proofs.accounts.is_among.Goals as goal
 
 pub returns : goal.returns

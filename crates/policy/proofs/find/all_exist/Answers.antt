@@ -1,6 +1,5 @@
 use Rattle.std.proofs.Common.{◌∙◌, sym, map, string_bytes, rules, tests}
-use Rattle.std.proofs.lemmas.Iterator.{YieldsList-from_slice}
-use Rattle.std.proofs.lemmas.Iterator.Search.{all_from_yields_List}
+use Rattle.std.proofs.lemmas.Iterator.{YieldsList-from_slice, Search.all_from_yields_List}
 use Rattle.std.proofs.lemmas.List.Folds.{list_all-map}
 use Rattle.policy.specs.Kinds.{is_among}
 use Rattle.policy.proofs.find.all_exist.Goals as goal

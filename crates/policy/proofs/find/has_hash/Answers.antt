@@ -1,6 +1,5 @@
 use Rattle.std.proofs.Common.{◌∙◌}
-use Rattle.policy.specs.Kinds.{is_hash}
-use Rattle.policy.proofs.Searches.{found_tells}
+use Rattle.policy.{specs.Kinds.is_hash, proofs.Searches.found_tells}
 use Rattle.policy.proofs.find.has_hash.Goals as goal
 
 pub returns : goal.returns

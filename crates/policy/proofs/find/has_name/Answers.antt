@@ -1,5 +1,4 @@
-use Rattle.std.proofs.Common.{◌∙◌}
-use Rattle.std.specs.Str.{bytes_eq}
+use Rattle.std.{proofs.Common.◌∙◌, specs.Str.bytes_eq}
 use Rattle.policy.proofs.Searches.{found_tells}
 use Rattle.policy.proofs.find.has_name.Goals as goal
 

@@ -1,7 +1,5 @@
-use Rattle.std.proofs.Common.{◌∙◌, sym, rules, tests}
-use Rattle.std.specs.Str.{bytes_eq}
-use Rattle.std.proofs.lemmas.Iterator.{YieldsList-from_slice}
-use Rattle.std.proofs.lemmas.Iterator.Search.{any_from_yields_List}
+use Rattle.std.{proofs.Common.◌∙◌, proofs.Common.sym, proofs.Common.rules, proofs.Common.tests, specs.Str.bytes_eq}
+use Rattle.std.proofs.lemmas.Iterator.{YieldsList-from_slice, Search.any_from_yields_List}
 use Rattle.policy.proofs.Searches.{any_value}
 use Rattle.policy.proofs.parser.is_among.Goals as goal
 

@@ -1,7 +1,5 @@
-use Rattle.std.proofs.Common.{◌∙◌, ap, map, string_bytes}
-use Rattle.std.specs.List.{list_all}
-use Rattle.policy.specs.Kinds.{is_among}
-use Rattle.policy.proofs.Keys.{has_only-keys}
+use Rattle.std.{proofs.Common.◌∙◌, proofs.Common.ap, proofs.Common.map, proofs.Common.string_bytes, specs.List.list_all}
+use Rattle.policy.{specs.Kinds.is_among, proofs.Keys.has_only-keys}
 use Rattle.policy.proofs.parser.only.Goals as goal
 
 -- all keys are left

@@ -1,5 +1,4 @@
-use Rattle.std.proofs.Common.{◌≡◌, map, string_bytes}
-use Rattle.std.specs.List.{list_all}
+use Rattle.std.{proofs.Common.◌≡◌, proofs.Common.map, proofs.Common.string_bytes, specs.List.list_all}
 use Rattle.toml.specs.View.{table_view}
 use Rattle.policy.specs.Kinds.{is_among, has_only}
 use Rattle.policy.proofs.parser.only.Given as goal

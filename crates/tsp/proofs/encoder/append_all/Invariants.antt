@@ -1,6 +1,5 @@
 use Rattle.std.proofs.Common.{◌≡◌, [], ◌++◌}
-use Rattle.der.specs.Node.{encodings, AreFormed}
-use Rattle.der.specs.Tree.{nodes}
+use Rattle.der.specs.{Node.encodings, Node.AreFormed, Tree.nodes}
 use Rattle.tsp.specs.Request.{extension_nodes}
 use Rattle.tsp.proofs.encoder.append_all.Given as goal
 

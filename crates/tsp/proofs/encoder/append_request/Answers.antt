@@ -1,9 +1,6 @@
 use Rattle.std.proofs.Common.{[], ◌++◌, length, arith, ap, ◌∙◌}
-use Rattle.der.specs.Node.{element, encodings}
-use Rattle.der.specs.Tree.{nodes}
-use Rattle.tsp.specs.Request.{extensions_under}
-use Rattle.tsp.specs.View.{request_view}
-use Rattle.tsp.proofs.RequestText.{request_text}
+use Rattle.der.specs.{Node.element, Node.encodings, Tree.nodes}
+use Rattle.tsp.{specs.Request.extensions_under, specs.View.request_view, proofs.RequestText.request_text}
 use Rattle.tsp.proofs.encoder.append_request.Goals as goal
 
 -- the parts, one after the other; a request that is lawful has fewer than 2 ^ 24 contents octets

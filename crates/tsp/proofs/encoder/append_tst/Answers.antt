@@ -1,9 +1,6 @@
 use Rattle.std.proofs.Common.{[], ◌++◌, length, arith, ap, ◌∙◌}
-use Rattle.der.specs.Node.{element, encodings}
-use Rattle.der.specs.Tree.{nodes}
-use Rattle.tsp.specs.Request.{extensions_under}
-use Rattle.tsp.specs.View.{tst_view}
-use Rattle.tsp.proofs.TstText.{tst_text}
+use Rattle.der.specs.{Node.element, Node.encodings, Tree.nodes}
+use Rattle.tsp.{specs.Request.extensions_under, specs.View.tst_view, proofs.TstText.tst_text}
 use Rattle.tsp.proofs.encoder.append_tst.Goals as goal
 
 -- the parts, one after the other; a TSTInfo that is lawful has fewer than 2 ^ 24 contents octets

@@ -7,7 +7,7 @@ pub returns-clause-text : goal.returns-clause-text
 returns-clause-text c =
     let count = 5 + length c.args.token.now in
     let front = c.in_ok-push.ensures.items ∙ ap (λ xs. xs ++ 48 ∷ []) c.new-reply.ensures.items in
-    let head = c.in_ok-append_length.ensures.ok ∙ ap (λ xs. xs ++ length_octets count) front in
+    let head = c.in_ok-append_length.ensures ∙ ap (λ xs. xs ++ length_octets count) front in
     let body = c.in_ok-extend_from_slice.ensures.items ∙ ap (λ xs. xs ++ 48 ∷ 3 ∷ 2 ∷ 1 ∷ 0 ∷ []) head in
     c.in_ok-extend_from_slice-2.ensures.items ∙ ap (λ xs. xs ++ c.args.token.now) body
     ∙ append_assoc (48 ∷ length_octets count) (48 ∷ 3 ∷ 2 ∷ 1 ∷ 0 ∷ []) c.args.token.now

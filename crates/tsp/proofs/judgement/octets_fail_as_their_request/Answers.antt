@@ -1,9 +1,7 @@
 use Rattle.std.proofs.Common.{◌<◌, arith}
-use Rattle.tsp.specs.Rejection.{number_of}
-use Rattle.tsp.specs.Rules.{HoldsOfOctets}
-use Rattle.tsp.specs.RulesOfOctets.{to_octets, first_of_octets}
-use Rattle.tsp.specs.declared.rule.Rule.{Rule}
-use Rattle.tsp.specs.declared.rule.Rule.TheVariants.{Spelling}
+use Rattle.tsp.specs.{Rejection.number_of, Rules.HoldsOfOctets}
+use Rattle.tsp.specs.auxiliary.RulesOfOctets.{to_octets, first_of_octets}
+use Rattle.tsp.specs.declared.rule.Rule.{Rule, TheVariants.Spelling}
 use Rattle.tsp.proofs.judgement.octets_fail_as_their_request.Goals as goal
 
 none_before : (P : Rule → Type 0) (earlier : Rule) → number_of earlier < 1 → P earlier

@@ -1,8 +1,6 @@
-use Rattle.std.proofs.Common.{◌≡◌}
-use Rattle.std.specs.Option.{is_some}
+use Rattle.std.{proofs.Common.◌≡◌, specs.Option.is_some}
 use Rattle.der.specs.DataValueView.{values_view}
-use Rattle.tsp.specs.Parser.{extensions_of}
-use Rattle.tsp.proofs.ExtensionRuns.{count_of}
+use Rattle.tsp.{specs.Parser.extensions_of, proofs.ExtensionRuns.count_of}
 use Rattle.tsp.proofs.parser.are_extensions.Given as goal
 
 -- all are extensions where those that are left are

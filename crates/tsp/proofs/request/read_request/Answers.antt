@@ -1,7 +1,6 @@
 use Rattle.std.proofs.Common.{◌≡◌}
 use Rattle.der.specs.DataValueView.{value_view}
-use Rattle.tsp.specs.Request.{time_stamp_req}
-use Rattle.tsp.specs.View.{request_view}
+use Rattle.tsp.specs.{Request.time_stamp_req, View.request_view}
 use Rattle.tsp.proofs.Spelled.{found_from_read, only_from_read, read_from_spelled, ok_found, ok_only, not_form}
 use Rattle.tsp.proofs.request.read_request.Goals as goal
 

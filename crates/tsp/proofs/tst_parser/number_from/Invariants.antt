@@ -1,5 +1,4 @@
-use Rattle.std.proofs.Common.{◌≡◌, take}
-use Rattle.std.specs.Int.Digits.{number_from_digits}
+use Rattle.std.{proofs.Common.◌≡◌, proofs.Common.take, specs.Int.Digits.number_from_digits}
 use Rattle.tsp.proofs.tst_parser.number_from.Given as goal
 
 abbrev pub invariant-loop-octet : goal.invariant-loop-octet

@@ -1,7 +1,5 @@
 use Rattle.std.proofs.Common.{◌≡◌}
-use Rattle.tsp.specs.Tst.{tst_info}
-use Rattle.tsp.specs.View.{tst_view}
-use Rattle.tsp.proofs.Spelled.{ok_only}
+use Rattle.tsp.{specs.Tst.tst_info, specs.View.tst_view, proofs.Spelled.ok_only}
 use Rattle.tsp.proofs.tst_parser.read_tst.Goals as goal
 
 pub returns-in-Ok-clause-only : goal.returns-in-Ok-clause-only

@@ -1,5 +1,4 @@
 use Rattle.std.proofs.Common.{[], ap, ◌∙◌}
-use Rattle.cms.specs.Framed.{FramedState}
 use Rattle.cms.proofs.Sending.{writes_nothing, receives_one, receives_none}
 use Rattle.cms.proofs.framed_signer.FramedSignerPipeline.receive_ahead.Goals as goal
 
@@ -10,30 +9,12 @@ returns-then-self-clause-sent g c =
 
 pub returns-in-Ok-clause-receives : goal.returns-in-Ok-clause-receives
 returns-in-Ok-clause-receives g c =
-    let y : FramedState g.row.R.Denot g.row.W.Denot = record {
-      reader = c.receive.new.reader;
-      writer = c.self.inside.writer;
-      unread = g.R.Read.remaining c.receive.new.reader;
-      written = g.W.Write.contents c.self.inside.writer;
-      algorithm = c.self.inside.algorithm;
-      faults = c.self.inside.faults;
-      is_closed = c.self.inside.is_closed;
-    } in
-    receives_one c.args.self.now y (g.R.Read.remaining c.self.inside.reader) c.receive.new.room.items
+    receives_one c.args.self.now _ (g.R.Read.remaining c.self.inside.reader) c.receive.new.room.items
     (ap (λ s. s.unread) c.self.view_is) c.in-Ok.ensures.ok (ap (λ s. s.written) c.self.view_is) c.if-self.false
 
 pub returns-in-Ok-clause-sent : goal.returns-in-Ok-clause-sent
 returns-in-Ok-clause-sent g c =
-    let y : FramedState g.row.R.Denot g.row.W.Denot = record {
-      reader = c.receive.new.reader;
-      writer = c.self.inside.writer;
-      unread = g.R.Read.remaining c.receive.new.reader;
-      written = g.W.Write.contents c.self.inside.writer;
-      algorithm = c.self.inside.algorithm;
-      faults = c.self.inside.faults;
-      is_closed = c.self.inside.is_closed;
-    } in
-    writes_nothing c.args.self.now y [] (ap (λ s. s.written) c.self.view_is)
+    writes_nothing c.args.self.now _ [] (ap (λ s. s.written) c.self.view_is)
     (λ closed. ap (λ s. s.is_closed) c.self.view_is ∙ closed)
 
 pub returns-in-Err-clause-receives : goal.returns-in-Err-clause-receives

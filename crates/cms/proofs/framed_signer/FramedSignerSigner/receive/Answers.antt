@@ -1,7 +1,4 @@
-use Rattle.cms.specs.Framed.{SignsByFrame}
-use Rattle.cms.specs.Sent.{SendsFrames}
-use Rattle.cms.specs.SentLaws.{sends_after}
-use Rattle.cms.specs.Signer.{signed_by}
+use Rattle.cms.specs.{Framed.SignsByFrame, auxiliary.SentLaws.sends_after, Sent.SendsFrames, Signer.signed_by}
 use Rattle.cms.proofs.SignedEach.{awaits_more}
 use Rattle.cms.proofs.framed_signer.FramedSignerSigner.receive.Goals as goal
 

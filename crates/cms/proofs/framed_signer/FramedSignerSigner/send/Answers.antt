@@ -1,5 +1,5 @@
 use Rattle.std.proofs.Common.{[], refl}
-use Rattle.cms.specs.SentLaws.{sends_nothing}
+use Rattle.cms.specs.auxiliary.SentLaws.{sends_nothing}
 use Rattle.cms.proofs.framed_signer.FramedSignerSigner.send.Goals as goal
 
 pub returns-clause-awaits : goal.returns-clause-awaits

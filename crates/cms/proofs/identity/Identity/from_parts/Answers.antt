@@ -1,6 +1,5 @@
 use Rattle.std.proofs.Common.{inl, refl}
-use Rattle.cms.specs.Chain.{IsShortCertificate}
-use Rattle.cms.proofs.Chains.{first_fault}
+use Rattle.cms.{specs.Chain.IsShortCertificate, proofs.Chains.first_fault}
 use Rattle.cms.proofs.identity.Identity.from_parts.Goals as goal
 
 pub returns-in_err-certificates-clause-refusals : goal.returns-in_err-certificates-clause-refusals

@@ -1,6 +1,5 @@
 use Rattle.std.proofs.Common.{◌∙◌}
-use Rattle.cms.specs.KeyedHash.{SignsByHash, SendsNothing}
-use Rattle.cms.specs.Signer.{signed_by}
+use Rattle.cms.specs.{KeyedHash.SignsByHash, KeyedHash.SendsNothing, Signer.signed_by}
 use Rattle.cms.proofs.SignedEach.{awaits_more}
 use Rattle.cms.proofs.keyed_hash.KeyedHashSigner.receive.Goals as goal
 

@@ -1,6 +1,5 @@
 use Rattle.std.proofs.Common.{◌≡◌, ◌≤◌, map, take, drop, length, vec_len}
-use Rattle.std.specs.Prelude.{vec_capacity}
-use Rattle.std.specs.List.{AllByRecursion}
+use Rattle.std.specs.{Prelude.vec_capacity, List.AllByRecursion}
 use Rattle.cms.specs.Signer.{signed_by, count_after_each, IsSized}
 use Rattle.cms.proofs.signer.Signer.sign_each.Given as goal
 

@@ -1,7 +1,6 @@
 use Rattle.std.proofs.Common.{◌≡◌, ◌≤◌, length, map, take, string_bytes}
 use Rattle.std.specs.List.{filter}
-use Rattle.policy.specs.LookUp.{has_member}
-use Rattle.policy.specs.View.{group_view}
+use Rattle.policy.specs.{LookUp.has_member, View.group_view}
 use Rattle.policy.proofs.groups.GroupNames.of.Given as goal
 
 -- the names so far are those of the groups that were passed

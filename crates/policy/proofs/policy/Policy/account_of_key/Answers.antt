@@ -1,7 +1,5 @@
 use Rattle.sha2.specs.Sha256.{sha256}
-use Rattle.policy.specs.Kinds.{is_hash}
-use Rattle.policy.specs.View.{account_view}
-use Rattle.policy.proofs.Searches.{found_value}
+use Rattle.policy.{specs.Kinds.is_hash, specs.View.account_view, proofs.Searches.found_value}
 use Rattle.policy.proofs.policy.Policy.account_of_key.Goals as goal
 
 pub returns : goal.returns

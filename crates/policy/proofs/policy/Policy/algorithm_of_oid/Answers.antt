@@ -1,7 +1,6 @@
 use Rattle.std.specs.Str.{bytes_eq}
 use Rattle.der.specs.ObjectIdentifier.{oid_content}
-use Rattle.policy.specs.View.{algorithm_view}
-use Rattle.policy.proofs.Searches.{found_value}
+use Rattle.policy.{specs.View.algorithm_view, proofs.Searches.found_value}
 use Rattle.policy.proofs.policy.Policy.algorithm_of_oid.Goals as goal
 
 pub returns : goal.returns

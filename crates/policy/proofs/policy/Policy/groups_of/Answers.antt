@@ -1,7 +1,5 @@
 use Rattle.std.proofs.Common.{◌∙◌}
-use Rattle.policy.specs.LookUp.{has_member}
-use Rattle.policy.specs.View.{group_view}
-use Rattle.policy.proofs.Kept.{kept_values}
+use Rattle.policy.{specs.LookUp.has_member, specs.View.group_view, proofs.Kept.kept_values}
 use Rattle.policy.proofs.policy.Policy.groups_of.Goals as goal
 
 pub returns : goal.returns

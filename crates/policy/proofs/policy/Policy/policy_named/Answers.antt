@@ -1,6 +1,5 @@
 use Rattle.std.specs.Str.{bytes_eq}
-use Rattle.policy.specs.View.{tsa_policy_view}
-use Rattle.policy.proofs.Searches.{found_value}
+use Rattle.policy.{specs.View.tsa_policy_view, proofs.Searches.found_value}
 use Rattle.policy.proofs.policy.Policy.policy_named.Goals as goal
 
 pub returns : goal.returns

@@ -1,6 +1,5 @@
 use Rattle.std.proofs.Common.{◌≤◌, length, sym, subst, arith}
-use Rattle.der.specs.Node.{encoding}
-use Rattle.der.proofs.Octets.{AreOctets-at}
+use Rattle.der.{specs.Node.encoding, proofs.Octets.AreOctets-at}
 use Rattle.tsp.specs.Request.{Spells, time_stamp_req, unstated}
 use Rattle.tsp.proofs.TstLawful.{sha256_is_spelled}
 use Rattle.tsp.proofs.request.Request.of_sha256.Goals as goal

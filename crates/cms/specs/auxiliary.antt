@@ -1,0 +1,4 @@
+pub mod ChainView
+pub mod Outline
+pub mod OutlineView
+pub mod SentLaws

@@ -1,0 +1,3 @@
+pub mod RulesOfOctets
+pub mod TstParser
+pub mod TstView
