@@ -1,33 +1,24 @@
 -- Equal tables, up to the order of their rows, come from histories with equal views.
-use Rattle.std.proofs.Common.{◌≡◌, ℕ, ◌<◌, ◌≤◌, ◌==◌, max, Bool, false, List, [], ◌∷◌, map, find, filter_map}
-use Rattle.std.proofs.Common.{Option, Some, None, option_map, refl, sym, ap, ◌∙◌, subst₂, inl, inr, arith}
-use Rattle.std.proofs.Common.{Contains, IsPermutation, reverse}
-use Rattle.std.proofs.lemmas.Bool.Decides.{eqb_tells}
-use Rattle.std.proofs.lemmas.List.Sorted.{Contains-permutation, IsPermutation-sym}
-use Rattle.std.proofs.Math.Nat.{le-max_left, le-max_right}
-use Rattle.std.specs.List.{AllByRecursion, list_any, range_with_len, cons_option}
-use Rattle.tables.specs.Tables.{StampRow, DepositRow, CalibrationRow, HoldRow, InstalledRow, is_stamp, is_deposit}
-use Rattle.tables.specs.Tables.{is_deposit_of, is_reader_row}
-use Rattle.store.specs.Alike.{HaveSameRows, AreAlike}
-use Rattle.book.specs.History.{History, ReservationValue, reservations, calibrations}
-use Rattle.book.specs.History.{holds, deposits, greatest_of, greatest_serial}
-use Rattle.book.specs.History.{token_of, stamp_of, stamps, stamp_at}
-use Rattle.book.specs.History.{deposit_at, deposit_under, first_of}
-use Rattle.book.specs.Identities.{installed_rows}
-use Rattle.book.specs.Readers.{Reader, Account, Group, Viewer, readers_as}
-use Rattle.book.specs.Rights.{is_reader, may_read, seen_by, listed, listed_at}
-use Rattle.book.specs.Sound.{IsSound}
-use Rattle.store.specs.Replay.{replayed}
-use Rattle.tables.specs.Changes.{calibration_row, hold_row}
-use Rattle.store.specs.TablesOf.{numbered}
-use Rattle.store.proofs.Members.{IsFalling, IsSingle, member_here, member_after, member_cases, no_member, all_of}
-use Rattle.store.proofs.Members.{some_pass, none_pass, fails_each, true_or_false, find_none, find_single, found_member}
+use Rattle.store.proofs.Words.{Account, AllByRecursion, Bool, CalibrationRow, Contains, Contains-permutation}
+use Rattle.store.proofs.Words.{DepositRow, Group, History, HoldRow, InstalledRow, IsPermutation, IsPermutation-sym}
+use Rattle.store.proofs.Words.{IsSound, List, None, Option, Reader, ReservationValue, Some, StampRow, Viewer, [], ap}
+use Rattle.store.proofs.Words.{arith, calibration_row, calibrations, cases_Bool, cons_option, deposit_at, deposit_under}
+use Rattle.store.proofs.Words.{deposits, false, filter_map, find, first_of, greatest_of, greatest_serial, hold_row}
+use Rattle.store.proofs.Words.{holds, inl, inr, installed_rows, is_deposit, is_deposit_of, is_reader, is_reader_row}
+use Rattle.store.proofs.Words.{is_stamp, le-max_left, le-max_right, list_any, listed, listed_at, map, max, may_read}
+use Rattle.store.proofs.Words.{option_map, range_with_len, readers_as, refl, reservations, reverse, seen_by, stamp_at}
+use Rattle.store.proofs.Words.{stamp_of, stamps, subst₂, sym, token_of, ℕ, ◌<◌, ◌∙◌, ◌∷◌, ◌≡◌, ◌≤◌}
+use Rattle.store.proofs.DepositRows.{deposits_are, find_stamp, single_number, single_reference}
 use Rattle.store.proofs.FallingSerials.{stamps_fall}
-use Rattle.store.proofs.Numbered.{numbers_fall, calibrations_are, holds_are}
 use Rattle.store.proofs.Installed.{identities_are, rows_fall}
+use Rattle.store.proofs.Members.{IsFalling, IsSingle, all_of, fails_each, find_none, find_single, found_member}
+use Rattle.store.proofs.Members.{member_after, member_cases, member_here, no_member, none_pass, some_pass}
+use Rattle.store.proofs.Numbered.{calibrations_are, holds_are, numbers_fall, unnumbered}
+use Rattle.store.proofs.Readers.{group_readers_are, readers_are}
 use Rattle.store.proofs.Stamps.{stamps_are}
-use Rattle.store.proofs.DepositRows.{deposits_are, single_number, single_reference}
-use Rattle.store.proofs.Readers.{readers_are, group_readers_are}
+use Rattle.store.specs.Alike.{AreAlike, HaveSameRows}
+use Rattle.store.specs.TablesOf.{numbered}
+use Rattle.store.specs.auxiliary.Replay.{replayed}
 
 -- the members of each are those of the other
 abbrev Within : {X : Type 0} → List X → List X → Type 0
@@ -80,8 +71,8 @@ permuted_same key xs ys f h p = falling_same key xs ys f h (within xs ys p) (bac
 -- a test is passed in both or in neither
 any_same : {X : Type 0} (p : X → Bool) (xs ys : List X) → IsPermutation xs ys → list_any p xs ≡ list_any p ys
 any_same p xs ys perm =
-    elim (true_or_false (list_any p ys)) [
-      | inl some ↦ elim (true_or_false (list_any p xs)) [
+    elim (cases_Bool (list_any p ys)) [
+      | inl some ↦ elim (cases_Bool (list_any p xs)) [
         | inl there ↦ there ∙ sym some
         | inr none ↦ absurd (let e : list_any p ys
             ≡ false = none_pass p ys (λ y m. fails_each p xs y none (back xs ys perm y m)) in cc)
@@ -94,14 +85,14 @@ find_same : {X : Type 0} (p : X → Bool) (xs ys : List X) → IsSingle p ys →
 find_same {X} p xs ys single perm = go (find p xs) refl where
   go : (found : Option X) → find p xs ≡ found → find p xs ≡ find p ys
   go None e =
-      let none : list_any p ys ≡ false = none_pass p ys (λ y m. elim (true_or_false (p y)) [
+      let none : list_any p ys ≡ false = none_pass p ys (λ y m. elim (cases_Bool (p y)) [
         | inl t ↦ absurd (let some = some_pass p xs y (back xs ys perm y m) t in let e' = any_of_find p xs e in cc)
         | inr f ↦ f
       ]) in e ∙ sym (find_none p ys none)
     where
       any_of_find : (p : X → Bool) (xs : List X) → find p xs ≡ None → list_any p xs ≡ false
       any_of_find p [] e = refl
-      any_of_find p (x ∷ xs) e = elim (true_or_false (p x)) [
+      any_of_find p (x ∷ xs) e = elim (cases_Bool (p x)) [
         | inl t ↦ absurd (let some : Some x ≡ None = sym (rw t refl) ∙ e in cc)
         | inr f ↦ rw f (any_of_find p xs (sym (rw f refl) ∙ e))
       ]
@@ -126,22 +117,6 @@ reserved_of : (b : History) (rs : List ReservationValue) → map unsealed (map (
 unfolding unsealed
 reserved_of b [] = refl
 reserved_of b (r ∷ rs) = ap (λ zs. r ∷ zs) (reserved_of b rs)
-
-found_stamp : (b : History) (n : ℕ) (rs : List ReservationValue)
-    → find (is_stamp n) (map (λ r. stamp_of (token_of r.serial b) r) rs)
-    ≡ option_map (stamp_of (token_of n b)) (find (λ r. r.serial == n) rs)
-found_stamp b n [] = refl
-found_stamp b n (r ∷ rs) =
-    elim (eqb_tells r.serial n) [
-      | inl t ↦ rw t.0 (ap (λ m. Some (stamp_of (token_of m b) r)) t.1)
-      | inr f ↦ rw f.0 (found_stamp b n rs)
-    ]
-
-unnumbered : {X Y : Type 0} (row : X → ℕ → Y) (from : Y → X) → ((x : X) (n : ℕ) → from (row x n) ≡ x) → (xs : List X)
-    → map from (numbered row xs) ≡ xs
-unnumbered row from is [] = refl
-unnumbered row from is (x ∷ xs) =
-    ap (λ z. z ∷ map from (numbered row xs)) (is x _) ∙ ap (λ zs. x ∷ zs) (unnumbered row from is xs)
 
 numbered_same : {X Y : Type 0} (row : X → ℕ → Y) (key : Y → ℕ) (from : Y → X) → ((x : X) (n : ℕ) → key (row x n) ≡ n)
     → ((x : X) (n : ℕ) → from (row x n) ≡ x)
@@ -194,8 +169,8 @@ module _ (b d : History) (sound : IsSound b) (other : IsSound d) (rows : HaveSam
       rows.deposits
 
   stamp_same : (n : ℕ) → stamp_at n b ≡ stamp_at n d
-  stamp_same n = sym (found_stamp b n (reservations b)) ∙ ap (find (is_stamp n)) stamps_same
-      ∙ found_stamp d n (reservations d)
+  stamp_same n = sym (find_stamp b n (reservations b)) ∙ ap (find (is_stamp n)) stamps_same
+      ∙ find_stamp d n (reservations d)
 
   deposit_same : (n : ℕ) → deposit_at n b ≡ deposit_at n d
   deposit_same n = find_same (is_deposit n) (deposits b) (deposits d) (single_number d n other) deposits_permuted

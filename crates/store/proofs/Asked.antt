@@ -1,14 +1,9 @@
 -- Whether an account reads a deposit, asked of its own name and of each of its groups in turn.
-use Rattle.std.proofs.Common.{◌≡◌, ℕ, Bool, true, false, List, ◌∷◌, map, refl, sym, ◌∙◌}
-use Rattle.std.specs.List.{list_any}
-use Rattle.sqlite_trees.specs.declared.store.Store.{Ghosts}
-use Rattle.tables.specs.Base.{BaseValue, IsHonest, IsOpen}
-use Rattle.book.specs.History.{History}
-use Rattle.book.specs.Readers.{Account, Group, Viewer}
-use Rattle.book.specs.Rights.{is_reader, may_read}
-use Rattle.book.specs.Stands.{Stands, OnlyLooks}
-use Rattle.store.specs.Stands.{over_tables}
+use Rattle.store.proofs.Words.{Account, BaseValue, Bool, Ghosts, Group, History, IsHonest, IsOpen, List, OnlyLooks}
+use Rattle.store.proofs.Words.{Stands, Viewer, false, is_reader, list_any, map, may_read, refl, sym, true, ℕ, ◌∙◌, ◌∷◌}
+use Rattle.store.proofs.Words.{◌≡◌}
 use Rattle.store.proofs.Walk.{looks_after}
+use Rattle.store.specs.Stands.{over_tables}
 
 abbrev any_of : ℕ → List (List ℕ) → History → Bool
 any_of number names b = list_any (λ reader. is_reader number reader b) (map Group names)

@@ -1,26 +1,20 @@
 -- Rows that are numbered in the order of their entries, each found by its number.
-use Rattle.std.proofs.Common.{◌≡◌, ◌≢◌, ℕ, zero, suc, ◌+◌, ◌==◌, List, [], ◌∷◌, ◌++◌, length, map, reverse, Contains}
-use Rattle.std.proofs.Common.{slice_get, Option, Some, None, option_map, refl, sym, ap, ◌∙◌, subst, inl, inr, arith}
-use Rattle.std.proofs.lemmas.Bool.{eqb-true, eq-eqb}
-use Rattle.std.proofs.lemmas.List.{length-reverse, map-append, map-id, reverse-append}
 use Rattle.std.proofs.lemmas.Option.{slice_get-map}
-use Rattle.tables.specs.Changes.{calibration_row, hold_row}
-use Rattle.tables.specs.Found.{IsFoundAs}
-use Rattle.tables.specs.Queries.{ShowsCalibration, ShowsHold, ShowsIdentity, identity_view}
-use Rattle.tables.specs.Tables.{CalibrationRow, HoldRow, InstalledRow, is_calibration, is_hold, is_identity}
-use Rattle.tables.specs.declared.rows.NumberedCalibration.{NumberedCalibration}
-use Rattle.book.specs.History.{CalibrationValue, HoldValue, History, Installed, calibrations, holds}
-use Rattle.book.specs.Identities.{identities, installed_rows}
-use Rattle.book.specs.Sound.{IsSound}
-use Rattle.book.specs.Values.{hold_view}
 use Rattle.book.specs.declared.rows.IdentityRow.{IdentityRow}
 use Rattle.book.specs.declared.values.Hold.{Hold}
-use Rattle.store.specs.Replay.{replayed}
-use Rattle.store.specs.Steps.{calibration_from}
-use Rattle.store.specs.TablesOf.{numbered}
+use Rattle.store.proofs.Words.{CalibrationRow, CalibrationValue, Contains, History, HoldRow, HoldValue, Installed}
+use Rattle.store.proofs.Words.{InstalledRow, IsFoundAs, IsSound, List, None, NumberedCalibration, Option}
+use Rattle.store.proofs.Words.{ShowsCalibration, ShowsHold, ShowsIdentity, Some, [], ap, arith, calibration_row}
+use Rattle.store.proofs.Words.{calibrations, eq-eqb, eqb-true, hold_row, hold_view, holds, identities, identity_view}
+use Rattle.store.proofs.Words.{inl, inr, installed_rows, is_calibration, is_hold, is_identity, length, length-reverse}
+use Rattle.store.proofs.Words.{map, map-append, map-id, option_map, refl, reverse, reverse-append, slice_get, subst}
+use Rattle.store.proofs.Words.{suc, sym, zero, ℕ, ◌++◌, ◌+◌, ◌==◌, ◌∙◌, ◌∷◌, ◌≡◌, ◌≢◌}
 use Rattle.store.proofs.Installed.{identities_are, length_rows}
-use Rattle.store.proofs.Members.{member_here, member_after, member_cases, no_member}
-use Rattle.store.proofs.Numbered.{calibrations_are, holds_are}
+use Rattle.store.proofs.Members.{member_after, member_cases, member_here, no_member}
+use Rattle.store.proofs.Numbered.{calibrations_are, holds_are, unnumbered}
+use Rattle.store.specs.TablesOf.{numbered}
+use Rattle.store.specs.auxiliary.Replay.{replayed}
+use Rattle.store.specs.auxiliary.Steps.{calibration_from}
 
 -- what a row says besides its number
 abbrev calibration_in : CalibrationRow → CalibrationValue
@@ -101,9 +95,9 @@ module _ {R : Type 0} (number : R → ℕ) where
       ∙ sym (said says xs n ∙ ap (option_map says)
       (at_number xs n x are m (eqb-true (number x) (n + 1) passes)))
 
--- rows that are made with their numbers, and say what they are made of
-module _ {V R : Type 0} (row : V → ℕ → R) (number : R → ℕ) (says : R → V)
-    (numbered_so : (v : V) (n : ℕ) → number (row v n) ≡ n) (says_so : (v : V) (n : ℕ) → says (row v n) ≡ v) where
+-- rows that are made with their numbers
+module _ {V R : Type 0} (row : V → ℕ → R) (number : R → ℕ)
+    (numbered_so : (v : V) (n : ℕ) → number (row v n) ≡ n) where
   long : (vs : List V) → length (numbered row vs) ≡ length vs
   long [] = refl
   long (v ∷ vs) = ap suc (long vs)
@@ -111,11 +105,6 @@ module _ {V R : Type 0} (row : V → ℕ → R) (number : R → ℕ) (says : R �
   pub are_counted : (vs : List V) → AreCounted number (numbered row vs)
   are_counted [] = tt
   are_counted (v ∷ vs) = (numbered_so v (length vs + 1) ∙ ap (λ n. n + 1) (sym (long vs)), are_counted vs)
-
-  pub are_said : (vs : List V) → map says (numbered row vs) ≡ vs
-  are_said [] = refl
-  are_said (v ∷ vs) =
-      ap (λ x. x ∷ map says (numbered row vs)) (says_so v (length vs + 1)) ∙ ap (λ rest. v ∷ rest) (are_said vs)
 
 -- ---- calibrations, holds and identities
 
@@ -126,10 +115,10 @@ calibration_at b n found is =
     let rows = numbered calibration_row (calibrations b) in
     found_at (λ (row : CalibrationRow). row.n) calibration_in ShowsCalibration calibration_from
     (λ x y shows. rw (shows.1, shows.2, shows.3) refl) rows n found
-    (are_counted calibration_row (λ row. row.n) calibration_in (λ v n. refl) (λ v n. refl) (calibrations b))
+    (are_counted calibration_row (λ row. row.n) (λ v n. refl) (calibrations b))
     (subst (λ rows. IsFoundAs ShowsCalibration (is_calibration (n + 1)) rows found) (calibrations_are b) is)
     ∙ ap (λ vs. slice_get (reverse vs) n)
-    (are_said calibration_row (λ row. row.n) calibration_in (λ v n. refl) (λ v n. refl) (calibrations b))
+    (unnumbered calibration_row calibration_in (λ v n. refl) (calibrations b))
 
 pub hold_at : (b : History) (n : ℕ) (found : Option Hold)
     → IsFoundAs ShowsHold (is_hold (n + 1)) (replayed b).holds found
@@ -137,10 +126,9 @@ pub hold_at : (b : History) (n : ℕ) (found : Option Hold)
 hold_at b n found is =
     found_at (λ (row : HoldRow). row.n) hold_in ShowsHold hold_view (λ x y shows. rw (shows.0, shows.1) refl)
     (numbered hold_row (holds b)) n found
-    (are_counted hold_row (λ row. row.n) hold_in (λ v n. refl) (λ v n. refl) (holds b))
+    (are_counted hold_row (λ row. row.n) (λ v n. refl) (holds b))
     (subst (λ rows. IsFoundAs ShowsHold (is_hold (n + 1)) rows found) (holds_are b) is)
-    ∙ ap (λ vs. slice_get (reverse vs) n)
-    (are_said hold_row (λ row. row.n) hold_in (λ v n. refl) (λ v n. refl) (holds b))
+    ∙ ap (λ vs. slice_get (reverse vs) n) (unnumbered hold_row hold_in (λ v n. refl) (holds b))
 
 identities_counted : (b : History) → AreCounted (λ (row : InstalledRow). row.number) (installed_rows b)
 identities_counted [] = tt

@@ -1,25 +1,16 @@
 -- The stamps of a range: the one with the least serial number comes first.
-use Rattle.std.proofs.Common.{◌≡◌, ℕ, ◌+◌, ◌<◌, ◌≤◌, ◌^◌, ◌&&◌, min, nat_le, Bool, true, false, IfSome, List, [], ◌∷◌}
-use Rattle.std.proofs.Common.{◌++◌, filter, map, reverse, Option, Some, None, refl, sym, ap, ◌∙◌, subst, inl, inr}
-use Rattle.std.proofs.Common.{arith, Contains}
-use Rattle.std.specs.List.{AllByRecursion}
-use Rattle.std.proofs.lemmas.Bool.{cases_Bool}
-use Rattle.std.proofs.lemmas.Bool.Decides.{leb_tells}
-use Rattle.std.proofs.lemmas.List.{reverse-append}
-use Rattle.std.proofs.Math.Nat.{min-le_left, min-le_right, le-min}
 use Rattle.book.specs.Rows.{StampRow}
-use Rattle.tables.specs.Found.{IsLeastAs}
-use Rattle.tables.specs.Queries.{ShowsStamp, is_within, stamp_view}
-use Rattle.book.specs.declared.rows.Stamp.{Stamp}
-use Rattle.book.specs.History.{History, Reserved}
-use Rattle.book.specs.History.{reservations, stamp_of, token_of, stamps, stamps_between}
-use Rattle.book.specs.Sound.{IsSound, greatest_number}
-use Rattle.book.specs.Ranges.{IsNextStamp, IsWithin}
-use Rattle.store.specs.Steps.{only_within}
-use Rattle.store.specs.Replay.{replayed}
+use Rattle.store.proofs.Words.{AllByRecursion, Bool, Contains, History, IfSome, IsLeastAs, IsNextStamp, IsSound}
+use Rattle.store.proofs.Words.{IsWithin, List, None, Option, Reserved, ShowsStamp, Some, Stamp, [], ap, arith}
+use Rattle.store.proofs.Words.{cases_Bool, false, filter, greatest_number, inl, inr, is_within, le-min, leb_tells, map}
+use Rattle.store.proofs.Words.{min, min-le_left, min-le_right, nat_le, refl, reservations, reverse, reverse-append}
+use Rattle.store.proofs.Words.{stamp_of, stamp_view, stamps, stamps_between, subst, sym, token_of, true, ℕ, ◌&&◌, ◌++◌}
+use Rattle.store.proofs.Words.{◌+◌, ◌<◌, ◌^◌, ◌∙◌, ◌∷◌, ◌≡◌, ◌≤◌}
 use Rattle.store.proofs.FallingSerials.{stamps_fall}
-use Rattle.store.proofs.Members.{IsFalling, member_here, member_after, member_cases, no_member, all_of}
+use Rattle.store.proofs.Members.{IsFalling, all_of, member_after, member_cases, member_here, no_member}
 use Rattle.store.proofs.Stamps.{stamps_are}
+use Rattle.store.specs.auxiliary.Replay.{replayed}
+use Rattle.store.specs.auxiliary.Steps.{only_within}
 
 filter_keeps : {X : Type 0} (p : X → Bool) (x : X) (xs : List X) → p x ≡ true → filter p (x ∷ xs) ≡ x ∷ filter p xs
 filter_keeps p x xs e = rw e refl

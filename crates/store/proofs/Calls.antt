@@ -1,24 +1,13 @@
 -- From the clauses of the tables to those of a book.
-use Rattle.std.proofs.Common.{◌≡◌, ◌⊎◌, inl, inr, List, [], ◌∷◌, subst, ap, ◌∙◌, sym, refl, Result, Ok, Err, IsErr, IfOk}
-use Rattle.std.proofs.lemmas.Result.{IfOk-weaker}
-use Rattle.sqlite_trees.specs.Tree.{Trees}
-use Rattle.sqlite_trees.specs.declared.store.Store.{Ghosts}
-use Rattle.tables.specs.Tables.{Tables}
-use Rattle.tables.specs.Base.{BaseValue, IsHonest, IsOpen, Keeps, Recovers, IsStored}
-use Rattle.tables.specs.Changes.{applied_all}
-use Rattle.tables.specs.Queries.{LooksUp, OnlyReads}
-use Rattle.tables.specs.declared.fault.TableFault.{TableFault}
-use Rattle.book.specs.History.{Entry, History}
-use Rattle.book.specs.declared.fault.StoreFault.{StoreFault}
-use Rattle.book.specs.Entries.{with_all, FitInTurn, LeavesOrAddsAll, Appends}
-use Rattle.book.specs.Fault.{count_after}
-use Rattle.book.specs.Sound.{IsSound}
-use Rattle.book.proofs.Shown.{sound_all}
-use Rattle.store.specs.Replay.{replayed}
-use Rattle.store.specs.TablesOf.{tables_of}
+use Rattle.store.proofs.Words.{Appends, BaseValue, Entry, Err, FitInTurn, Ghosts, History, IfOk, IfOk-weaker, IsErr}
+use Rattle.store.proofs.Words.{IsHonest, IsOpen, IsSound, IsStored, Keeps, LeavesOrAddsAll, List, LooksUp, Ok}
+use Rattle.store.proofs.Words.{OnlyLooks, OnlyReads, Recovers, Result, Stands, StoreFault, TableFault, Tables, Trees}
+use Rattle.store.proofs.Words.{[], ap, applied_all, count_after, inl, inr, refl, sound_all, subst, sym, with_all, ◌∙◌}
+use Rattle.store.proofs.Words.{◌∷◌, ◌≡◌, ◌⊎◌}
 use Rattle.store.proofs.Replayed.{replayed_is}
-use Rattle.book.specs.Stands.{Stands, OnlyLooks}
 use Rattle.store.specs.Stands.{over_tables}
+use Rattle.store.specs.TablesOf.{tables_of}
+use Rattle.store.specs.auxiliary.Replay.{replayed}
 
 -- a store that keeps the tables of a sound history
 pub stands_for : {S : Type 0} (g : Ghosts S) (b : History) (store : BaseValue S) → IsSound b

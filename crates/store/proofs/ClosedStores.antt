@@ -1,19 +1,12 @@
 -- What a closed store leaves in its files.
-use Rattle.std.proofs.Common.{◌≡◌, subst, Result, Ok, Err, IfOk}
-use Rattle.sqlite_disk.specs.declared.Disk.{Ghosts}
-use Rattle.sqlite_disk.specs.declared.Files.{Files}
-use Rattle.sqlite_trees.specs.Tree.{Trees}
-use Rattle.sqlite_wal.specs.Recovery.{Image}
-use Rattle.sqlite_store.specs.declared.store.FileStore.{FileStore}
 use Rattle.sqlite_catalog.specs.Listing.{IsSound}
 use Rattle.sqlite.specs.Closing.{HoldsAlone, IsCopied}
-use Rattle.sqlite.specs.Effect.{Database}
-use Rattle.sqlite.specs.Files.{file_state, over_files}
 use Rattle.sqlite.specs.Held.{Held}
+use Rattle.sqlite_disk.specs.declared.Disk.{Ghosts}
+use Rattle.sqlite_store.specs.declared.store.FileStore.{FileStore}
 use Rattle.sqlite_wal.specs.Reads.{AreClean}
-use Rattle.tables.specs.Base.{BaseValue, IsStored}
-use Rattle.book.specs.History.{History}
-use Rattle.book.specs.declared.fault.StoreFault.{StoreFault}
+use Rattle.store.proofs.Words.{BaseValue, Database, Err, Files, History, IfOk, Image, IsStored, Ok, Result, StoreFault}
+use Rattle.store.proofs.Words.{Trees, file_state, over_files, subst, ◌≡◌}
 use Rattle.store.specs.Files.{HasClosed, KeepsAlone, LeavesFiles}
 use Rattle.store.specs.Stands.{Stands}
 use Rattle.store.specs.TablesOf.{tables_of}

@@ -1,20 +1,11 @@
 -- What the making of the tables leaves.
-use Rattle.std.proofs.Common.{◌≡◌, List, [], Result, Ok, Err, IfOk, inl, inr, subst}
-use Rattle.sqlite_trees.specs.declared.store.Store.{Ghosts}
-use Rattle.sqlite.specs.State.{State}
-use Rattle.sqlite.specs.declared.error.Error.{Error}
-use Rattle.tables.specs.Base.{BaseValue, Keeps, IsStored}
-use Rattle.tables.specs.Changes.{applied_all}
-use Rattle.tables.specs.Tables.{no_rows}
+use Rattle.store.proofs.Words.{BaseValue, Entry, Err, Error, FitInTurn, Ghosts, IfOk, IsStored, Keeps, List, Ok, Result}
+use Rattle.store.proofs.Words.{State, StoreFault, [], applied_all, inl, inr, no_rows, sound_all, subst, with_all, ◌≡◌}
 use Rattle.tables.specs.Versions.{Creates}
-use Rattle.book.specs.Entries.{with_all, FitInTurn}
-use Rattle.book.specs.declared.fault.StoreFault.{StoreFault}
-use Rattle.book.specs.History.{Entry}
-use Rattle.book.proofs.Shown.{sound_all}
+use Rattle.store.proofs.Calls.{tables_step}
 use Rattle.store.specs.Files.{LeavesAsItWas, LeavesOrMakes}
 use Rattle.store.specs.Stands.{Stands}
 use Rattle.store.specs.TablesOf.{tables_of}
-use Rattle.store.proofs.Calls.{tables_step}
 
 -- entries that fit in turn make the tables of their history
 tables_made : (entries : List Entry) → FitInTurn entries [] → applied_all entries no_rows

@@ -1,17 +1,11 @@
 -- The cursors of a list move on, one after the other.
-use Rattle.std.proofs.Common.{◌≡◌, ◌≢◌, ◌⊎◌, ℕ, zero, suc, ◌+◌, ◌<◌, ◌≤◌, nat_lt, List, [], ◌∷◌, length}
-use Rattle.std.proofs.Common.{get_or, set, Option, None, refl, sym, ◌∙◌, subst, inl, inr, arith}
-use Rattle.std.proofs.lemmas.Bool.{ltb-true, ltb-false}
-use Rattle.std.proofs.lemmas.List.{length-set, get_or-set_other, get_or-set_same}
-use Rattle.sqlite_trees.specs.declared.store.Store.{Ghosts}
-use Rattle.tables.specs.Base.{BaseValue, IsHonest}
-use Rattle.book.specs.History.{History}
-use Rattle.book.specs.Readers.{Account, Group, Viewer}
-use Rattle.book.specs.Stands.{Stands, OnlyLooks}
-use Rattle.store.specs.Stands.{over_tables}
-use Rattle.store.specs.Steps.{IsNextReadable, IsCursor, AreCursors, AreNextReadable}
-use Rattle.store.proofs.Members.{true_or_false}
+use Rattle.store.proofs.Words.{Account, BaseValue, Ghosts, Group, History, IsHonest, List, None, OnlyLooks, Option}
+use Rattle.store.proofs.Words.{Stands, Viewer, [], arith, cases_Bool, get_or, get_or-set_other, get_or-set_same, inl}
+use Rattle.store.proofs.Words.{inr, length, length-set, ltb-false, ltb-true, nat_lt, refl, set, subst, suc, sym, zero}
+use Rattle.store.proofs.Words.{ℕ, ◌+◌, ◌<◌, ◌∙◌, ◌∷◌, ◌≡◌, ◌≢◌, ◌≤◌, ◌⊎◌}
 use Rattle.store.proofs.Walk.{looks_after}
+use Rattle.store.specs.Stands.{over_tables}
+use Rattle.store.specs.auxiliary.Steps.{AreCursors, AreNextReadable, IsCursor, IsNextReadable}
 
 -- those below an index have moved, the others are as they were, and nothing else has changed
 pub record HasMoved {S : Type 0} (g : Ghosts S) (old now : BaseValue S) (viewer : Viewer) (after : ℕ)
@@ -51,7 +45,7 @@ any_default (x ∷ xs) (suc i) d e within = any_default xs i d e (omega (arith, 
 -- below one more is below, or at it
 below_or_at : (k index : ℕ) → k < index + 1 → (k < index) ⊎ (k ≡ index)
 below_or_at k index below =
-    elim (true_or_false (nat_lt k index)) [
+    elim (cases_Bool (nat_lt k index)) [
       | inl t ↦ inl (ltb-true k index t)
       | inr f ↦ (let not_less = ltb-false k index f in inr (omega (arith, below, not_less)))
     ]

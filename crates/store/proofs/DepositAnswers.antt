@@ -1,21 +1,12 @@
 -- From what the tables answer to what the look-ups of deposits answer.
-use Rattle.std.proofs.Common.{◌≡◌, ℕ, List, Option, Some, None, option_map, refl}
-use Rattle.std.proofs.Common.{sym, ap, ◌∙◌, subst, String, string_bytes}
-use Rattle.std.specs.declared.alloc.Global.{Global}
-use Rattle.tables.specs.Found.{IsFoundAs}
-use Rattle.tables.specs.Tables.{DepositRow, is_stamp, is_deposit}
-use Rattle.tables.specs.Queries.{ShowsStamp, ShowsDeposit, ShowsReference, ShowsOrigin, stamp_view, deposit_view}
-use Rattle.tables.specs.Queries.{is_owned}
-use Rattle.book.specs.declared.rows.Stamp.{Stamp}
-use Rattle.book.specs.declared.rows.Deposit.{Deposit}
-use Rattle.tables.specs.declared.rows.Origin.{Origin}
-use Rattle.book.specs.History.{History, deposit_at, stamp_at}
-use Rattle.book.specs.Rights.{deposit_with_stamp}
-use Rattle.book.specs.Sound.{IsSound}
-use Rattle.store.specs.Steps.{IsOriginOf, listing_at}
-use Rattle.store.specs.Replay.{replayed}
-use Rattle.store.proofs.DepositRows.{deposit_view_of, stamp_view_of, origin_view_of}
-use Rattle.store.proofs.DepositRows.{unreserved_listing, unlabelled_listing, labelled_listing}
+use Rattle.store.proofs.Words.{Deposit, DepositRow, Global, History, IsFoundAs, IsSound, List, None, Option, Origin}
+use Rattle.store.proofs.Words.{ShowsDeposit, ShowsOrigin, ShowsReference, ShowsStamp, Some, Stamp, String, ap}
+use Rattle.store.proofs.Words.{deposit_at, deposit_view, deposit_with_stamp, is_deposit, is_owned, is_stamp, option_map}
+use Rattle.store.proofs.Words.{refl, stamp_at, stamp_view, string_bytes, subst, sym, ℕ, ◌∙◌, ◌≡◌}
+use Rattle.store.proofs.DepositRows.{deposit_view_of, labelled_listing, origin_view_of, stamp_view_of}
+use Rattle.store.proofs.DepositRows.{unlabelled_listing, unreserved_listing}
+use Rattle.store.specs.auxiliary.Replay.{replayed}
+use Rattle.store.specs.auxiliary.Steps.{IsOriginOf, listing_at}
 
 -- ---- a deposit with its stamp
 

@@ -1,34 +1,20 @@
 -- The deposits of the tables are the history's, each number once and each reference of an owner once.
-use Rattle.std.proofs.Common.{◌≡◌, ℕ, ◌<◌, ◌≤◌, ◌==◌, ◌&&◌, ◌||◌, Bool, true, false, cond, List, [], ◌∷◌}
-use Rattle.std.proofs.Common.{map, find, Option, Some, None, option_map, option_and_then, refl, sym, ap, ◌∙◌, subst}
-use Rattle.std.proofs.Common.{inl, inr, arith, Contains, String, string_bytes}
-use Rattle.std.specs.Option.{is_some}
-use Rattle.std.specs.List.{list_any}
-use Rattle.std.specs.Str.{bytes_eq}
-use Rattle.std.proofs.lemmas.Bool.{eqb-true, eq-eqb}
-use Rattle.std.proofs.lemmas.Bool.Decides.{eqb_tells}
-use Rattle.std.proofs.lemmas.Slice.Eq.{bytes_eq-Decides}
-use Rattle.tables.specs.Found.{IsFoundAs}
-use Rattle.tables.specs.Tables.{StampRow, DepositRow, is_stamp, is_deposit, is_deposit_of}
-use Rattle.tables.specs.Queries.{ShowsStamp, ShowsDeposit, ShowsReference, ShowsOrigin, stamp_view, deposit_view}
-use Rattle.tables.specs.Queries.{is_owned}
-use Rattle.book.specs.declared.rows.Stamp.{Stamp}
-use Rattle.book.specs.declared.rows.Deposit.{Deposit}
-use Rattle.std.specs.declared.alloc.Global.{Global}
-use Rattle.tables.specs.declared.rows.Origin.{Origin}
-use Rattle.book.specs.History.{Reserved, Sealed, Deposited, Granted, Revoked, History}
-use Rattle.book.specs.History.{ReservationValue, reservations, reservation_at, greatest_serial, deposits}
-use Rattle.book.specs.History.{deposit_at, deposit_under, token_of, stamp_of, stamps, stamp_at}
-use Rattle.book.specs.Readers.{Reader, is_same, Viewer, readers_as}
-use Rattle.book.specs.Rights.{is_of, is_own, is_reader, may_read, shown_to, is_visible}
-use Rattle.book.specs.Sound.{IsSound, greatest_number}
-use Rattle.store.specs.Replay.{replayed}
+use Rattle.store.proofs.Words.{Bool, Contains, Deposit, DepositRow, Deposited, Global, Granted, History, IsFoundAs}
+use Rattle.store.proofs.Words.{IsSound, List, None, Option, Origin, Reader, ReservationValue, Reserved, Revoked, Sealed}
+use Rattle.store.proofs.Words.{ShowsDeposit, ShowsOrigin, ShowsReference, ShowsStamp, Some, Stamp, StampRow, String}
+use Rattle.store.proofs.Words.{Viewer, [], and_parts, ap, arith, bytes_eq, bytes_eq-Decides, cases_Bool, cond}
+use Rattle.store.proofs.Words.{deposit_at, deposit_under, deposit_view, deposits, eq-eqb, eqb-true, eqb_tells, false}
+use Rattle.store.proofs.Words.{find, greatest_number, greatest_serial, inl, inr, is_deposit, is_deposit_of, is_of}
+use Rattle.store.proofs.Words.{is_own, is_owned, is_reader, is_same, is_some, is_stamp, is_visible, list_any, map}
+use Rattle.store.proofs.Words.{may_read, option_and_then, option_map, readers_as, refl, reservation_at, reservations}
+use Rattle.store.proofs.Words.{shown_to, stamp_at, stamp_of, stamp_view, stamps, string_bytes, subst, sym, token_of}
+use Rattle.store.proofs.Words.{true, ℕ, ◌&&◌, ◌<◌, ◌==◌, ◌||◌, ◌∙◌, ◌∷◌, ◌≡◌, ◌≤◌}
 use Rattle.store.proofs.FallingSerials.{stamps_fall}
-use Rattle.store.proofs.Members.{IsSingle, IsSearchedAs, both_true, true_or_false, found_is_searched, found_member}
-use Rattle.store.proofs.Members.{find_single, find_none, none_pass, some_pass, falling_single, member_cases}
-use Rattle.store.proofs.Members.{no_member}
-use Rattle.store.specs.Steps.{IsOriginOf, listing_at}
-use Rattle.store.proofs.Stamps.{stamps_are, absent_above, unreserved}
+use Rattle.store.proofs.Members.{IsSearchedAs, IsSingle, falling_single, find_none, find_single, found_is_searched}
+use Rattle.store.proofs.Members.{found_member, member_cases, no_member, none_pass, some_pass}
+use Rattle.store.proofs.Stamps.{absent_above, stamps_are, unreserved}
+use Rattle.store.specs.auxiliary.Replay.{replayed}
+use Rattle.store.specs.auxiliary.Steps.{IsOriginOf, listing_at}
 
 pub deposits_are : (b : History) → (replayed b).deposits ≡ deposits b
 deposits_are [] = refl
@@ -41,7 +27,7 @@ deposits_are (_ ∷ b) = deposits_are b
 token_before : (b : History) (m n : ℕ) (token : List ℕ) → (cond (m == n) (Some token) (token_of n b)) ≡ None
     → token_of n b ≡ None
 token_before b m n token e =
-    elim (true_or_false (m == n)) [
+    elim (cases_Bool (m == n)) [
       | inl t ↦ (let here : Some token ≡ None = sym (rw t refl) ∙ e in cc)
       | inr f ↦ sym (rw f refl) ∙ e
     ]
@@ -93,7 +79,7 @@ pub fails_where_none : {X : Type 0} (p : X → Bool) (xs : List X) → find p xs
     → p y ≡ true → ⊥
 fails_where_none p [] none y m e = no_member y m
 fails_where_none p (x ∷ xs) none y m e =
-    elim (true_or_false (p x)) [
+    elim (cases_Bool (p x)) [
       | inl t ↦ (let here : Some x ≡ None = sym (rw t refl) ∙ none in cc)
       | inr f ↦ elim (member_cases x y xs m) [
         | inl same ↦ (let t : p x ≡ true = ap p same ∙ e in cc)
@@ -104,7 +90,7 @@ fails_where_none p (x ∷ xs) none y m e =
 reference_is : (owner reference : List ℕ) (d : DepositRow) → is_deposit_of owner reference d ≡ true
     → (d.owner ≡ owner) × (d.reference ≡ reference)
 reference_is owner reference d e =
-    let parts = both_true (bytes_eq d.owner owner) (bytes_eq d.reference reference) e in
+    let parts = and_parts (bytes_eq d.owner owner) (bytes_eq d.reference reference) e in
     ((bytes_eq-Decides d.owner owner).0 parts.0, (bytes_eq-Decides d.reference reference).0 parts.1)
 
 reference_passes : (owner reference : List ℕ) (d : DepositRow) → d.owner ≡ owner → d.reference ≡ reference
@@ -153,7 +139,7 @@ single_stamp b n s x y m k e f =
     falling_single (λ (v : StampRow). v.serial) (stamps b) x y (stamps_fall b s) m k
     (eqb-true x.serial n e ∙ sym (eqb-true y.serial n f))
 
-find_stamp : (b : History) (n : ℕ) (rs : List ReservationValue)
+pub find_stamp : (b : History) (n : ℕ) (rs : List ReservationValue)
     → find (is_stamp n) (map (λ r. stamp_of (token_of r.serial b) r) rs)
     ≡ option_map (stamp_of (token_of n b)) (find (λ r. r.serial == n) rs)
 find_stamp b n [] = refl
@@ -238,19 +224,19 @@ no_reader : (b : History) (n : ℕ) (reader : Reader) → IsSound b → deposit_
     → is_reader n reader b ≡ false
 no_reader [] n reader s none = refl
 no_reader (Deposited d token ∷ b) n reader s none =
-    elim (true_or_false (d.serial == n)) [
+    elim (cases_Bool (d.serial == n)) [
       | inl t ↦ (let here : Some d ≡ None = sym (rw t refl) ∙ none in cc)
       | inr f ↦ no_reader b n reader s.1 (sym (rw f refl) ∙ none)
     ]
 no_reader (Granted m r ∷ b) n reader s none =
-    elim (true_or_false ((m == n) && is_same r reader)) [
-      | inl t ↦ (let here : m ≡ n = eqb-true m n (both_true (m == n) (is_same r reader) t).0 in
+    elim (cases_Bool ((m == n) && is_same r reader)) [
+      | inl t ↦ (let here : m ≡ n = eqb-true m n (and_parts (m == n) (is_same r reader) t).0 in
           let P : ℕ → Type 0 = λ k. deposit_at k b ≡ Some s.0.deposit in
           let there : deposit_at n b ≡ Some s.0.deposit = subst P here s.0.deposited in cc)
       | inr f ↦ rw f (no_reader b n reader s.1 none)
     ]
 no_reader (Revoked m r ∷ b) n reader s none =
-    elim (true_or_false ((m == n) && is_same r reader)) [
+    elim (cases_Bool ((m == n) && is_same r reader)) [
       | inl t ↦ rw t refl
       | inr f ↦ rw f (no_reader b n reader s.1 none)
     ]
@@ -268,11 +254,11 @@ owned_is : (ds : List DepositRow) (n : ℕ) (a : List ℕ) (d : DepositRow) → 
     → list_any (is_owned n a) ds ≡ bytes_eq d.owner a
 owned_is ds n a d single is =
     let there = found_member (is_deposit n) ds d is in
-    elim (true_or_false (bytes_eq d.owner a)) [
+    elim (cases_Bool (bytes_eq d.owner a)) [
       | inl t ↦ some_pass (is_owned n a) ds d there.0 (rw (there.1, t) refl) ∙ sym t
       | inr f ↦ none_pass (is_owned n a) ds (λ y m.
-          (elim (true_or_false (is_owned n a y)) [
-            | inl own ↦ (let parts = both_true (y.serial == n) (bytes_eq y.owner a) own in
+          (elim (cases_Bool (is_owned n a y)) [
+            | inl own ↦ (let parts = and_parts (y.serial == n) (bytes_eq y.owner a) own in
                 let same : y ≡ d = single y d m there.0 parts.0 there.1 in
                 let t : bytes_eq d.owner a ≡ true = subst (λ v. bytes_eq v.owner a ≡ true) same parts.1 in cc)
             | inr not ↦ not
@@ -283,8 +269,8 @@ owned_none : (ds : List DepositRow) (n : ℕ) (a : List ℕ) → find (is_deposi
     → list_any (is_owned n a) ds ≡ false
 owned_none ds n a none =
     none_pass (is_owned n a) ds (λ y m.
-    (elim (true_or_false (is_owned n a y)) [
-      | inl own ↦ (let parts = both_true (y.serial == n) (bytes_eq y.owner a) own in
+    (elim (cases_Bool (is_owned n a y)) [
+      | inl own ↦ (let parts = and_parts (y.serial == n) (bytes_eq y.owner a) own in
           absurd (fails_where_none (is_deposit n) ds none y m parts.0))
       | inr not ↦ not
     ]))
@@ -323,7 +309,7 @@ no_deposit b n s none = find_none (is_deposit n) (deposits b)
     (none_pass (is_deposit n) (deposits b) (λ y m. fails y m)) where
       fails : (y : DepositRow) → Contains (deposits b) y → is_deposit n y ≡ false
       fails y m =
-          elim (true_or_false (is_deposit n y)) [
+          elim (cases_Bool (is_deposit n y)) [
             | inl t ↦ (let P : ℕ → Type 0 = λ k. token_of k b ≡ None in
                 absurd (deposit_sealed b y m (subst P (sym (eqb-true y.serial n t)) (unreserved b n s none))))
             | inr f ↦ f
@@ -378,7 +364,7 @@ pub labelled_listing : (b : History) (n : ℕ) (origin : Origin) (reference : St
     ≡ listing_at n b
 labelled_listing b n origin reference s (r, at, account, gen_time) (d, m, passes, shows) =
     let P : List DepositRow → Type 0 = λ rows. Contains rows d in
-    let parts = both_true (d.serial == n) (bytes_eq d.owner (string_bytes origin.account)) passes in
+    let parts = and_parts (d.serial == n) (bytes_eq d.owner (string_bytes origin.account)) passes in
     let found : deposit_at n b ≡ Some d =
     find_single (is_deposit n) (deposits b) d (single_number b n s) (subst P (deposits_are b) m) parts.0 in
     let serial : d.serial ≡ n = eqb-true d.serial n parts.0 in

@@ -1,58 +1,49 @@
 -- Which reader rows and tally rows stand in the tables of a history.
-use Rattle.std.proofs.Common.{◌≡◌, ℕ, ◌<◌, Bool, true, List, [], ◌∷◌, map, refl, sym, ◌∙◌, subst, inl}
-use Rattle.std.proofs.Common.{inr, arith, Contains, ◌↔◌}
-use Rattle.std.specs.List.{list_any}
-use Rattle.tables.specs.Tables.{ReaderRow, TallyRow, is_reader_row, is_tally_of, raised_row, with_one_more}
-use Rattle.book.specs.History.{Reserved, History}
-use Rattle.book.specs.History.{day_of, count_of_day}
-use Rattle.book.specs.Readers.{Account, Group}
-use Rattle.book.specs.Rights.{is_reader}
-use Rattle.book.specs.Sound.{IsSound}
-use Rattle.store.specs.Replay.{replayed}
-use Rattle.store.specs.TablesOf.{tables_of}
-use Rattle.store.proofs.Members.{true_or_false, some_pass, member_here, member_after, member_cases, no_member}
-use Rattle.store.proofs.Readers.{readers_are, group_readers_are, row_is, key_passes}
+use Rattle.store.proofs.Words.{Account, Bool, Contains, Group, History, IsSound, List, ReaderRow, Reserved, TallyRow}
+use Rattle.store.proofs.Words.{[], arith, cases_Bool, count_of_day, day_of, inl, inr, is_reader, is_reader_row}
+use Rattle.store.proofs.Words.{is_tally_of, list_any, map, raised_row, refl, subst, sym, true, with_one_more, zero, ℕ}
+use Rattle.store.proofs.Words.{◌<◌, ◌↔◌, ◌∙◌, ◌∷◌, ◌≡◌}
+use Rattle.store.proofs.Members.{member_after, member_cases, member_here, no_member, some_pass}
+use Rattle.store.proofs.Readers.{group_readers_are, key_passes, readers_are, row_is}
 use Rattle.store.proofs.Replayed.{replayed_is}
 use Rattle.store.proofs.Tallies.{tallies_count}
+use Rattle.store.specs.TablesOf.{tables_of}
+use Rattle.store.specs.auxiliary.Replay.{replayed}
 use Rattle.store.proofs.Tallies as tally
 
 passing : {X : Type 0} (p : X → Bool) (xs : List X) → list_any p xs ≡ true
     → (x : X) × Contains xs x × (p x ≡ true)
 passing p [] e = cc
 passing p (x ∷ xs) e =
-    elim (true_or_false (p x)) [
+    elim (cases_Bool (p x)) [
       | inl t ↦ (x, member_here x xs, t)
       | inr f ↦ (let there : list_any p xs ≡ true = sym (rw f refl) ∙ e in
           let rest = passing p xs there in (rest.0, member_after x rest.0 xs rest.1, rest.2))
     ]
 
+-- a row stands among rows of which one has its key where this says so
+exactly : (rows : List ReaderRow) (row : ReaderRow) (reads : Bool)
+    → list_any (is_reader_row row.serial row.name) rows ≡ reads → Contains rows row ↔ (reads ≡ true)
+exactly rows row reads are = (
+  λ m. sym are
+      ∙ some_pass (is_reader_row row.serial row.name) rows row m
+      (key_passes row.serial row.name row.serial row.name refl refl),
+  λ yes.
+      let found = passing (is_reader_row row.serial row.name) rows (are ∙ yes) in
+      subst (λ (r : ReaderRow). Contains rows r) (row_is row.serial row.name found.0 found.2) found.1,
+)
+
 pub reader_rows : (b : History) → IsSound b → (row : ReaderRow)
     → Contains (tables_of b).readers row ↔ (is_reader row.serial (Account row.name) b ≡ true)
 reader_rows b sound row =
-    subst (λ t. Contains t.readers row ↔ (is_reader row.serial (Account row.name) b ≡ true)) (replayed_is b sound) (
-      λ m. sym (readers_are b row.serial row.name)
-          ∙ some_pass (is_reader_row row.serial row.name) (replayed b).readers row m
-          (key_passes row.serial row.name row.serial row.name refl refl),
-      λ reads.
-          let found = passing (is_reader_row row.serial row.name) (replayed b).readers
-          (readers_are b row.serial row.name ∙ reads) in
-          subst (λ (r : ReaderRow). Contains (replayed b).readers r)
-          (row_is row.serial row.name found.0 found.2) found.1,
-    )
+    subst (λ t. Contains t.readers row ↔ (is_reader row.serial (Account row.name) b ≡ true)) (replayed_is b sound)
+    (exactly (replayed b).readers row _ (readers_are b row.serial row.name))
 
 pub group_reader_rows : (b : History) → IsSound b → (row : ReaderRow)
     → Contains (tables_of b).group_readers row ↔ (is_reader row.serial (Group row.name) b ≡ true)
 group_reader_rows b sound row =
-    subst (λ t. Contains t.group_readers row ↔ (is_reader row.serial (Group row.name) b ≡ true)) (replayed_is b sound) (
-      λ m. sym (group_readers_are b row.serial row.name)
-          ∙ some_pass (is_reader_row row.serial row.name) (replayed b).group_readers row m
-          (key_passes row.serial row.name row.serial row.name refl refl),
-      λ reads.
-          let found = passing (is_reader_row row.serial row.name) (replayed b).group_readers
-          (group_readers_are b row.serial row.name ∙ reads) in
-          subst (λ (r : ReaderRow). Contains (replayed b).group_readers r)
-          (row_is row.serial row.name found.0 found.2) found.1,
-    )
+    subst (λ t. Contains t.group_readers row ↔ (is_reader row.serial (Group row.name) b ≡ true)) (replayed_is b sound)
+    (exactly (replayed b).group_readers row _ (group_readers_are b row.serial row.name))
 
 raised_positive : (a : List ℕ) (d : ℕ) (rows : List TallyRow)
     → ((row : TallyRow) → Contains rows row → 0 < row.count)
@@ -61,7 +52,7 @@ raised_positive a d [] each row m = absurd (no_member row m)
 raised_positive a d (x ∷ rows) each row m =
     elim (member_cases (raised_row a d x) row (map (raised_row a d) rows) m) [
       | inl same ↦ (let before = each x (member_here x rows) in
-          subst (λ (r : TallyRow). 0 < r.count) same (elim (true_or_false (is_tally_of a d x)) [
+          subst (λ (r : TallyRow). 0 < r.count) same (elim (cases_Bool (is_tally_of a d x)) [
             | inl t ↦ rw t (omega arith)
             | inr f ↦ rw f before
           ]))
@@ -72,7 +63,7 @@ more_positive : (a : List ℕ) (d : ℕ) (rows : List TallyRow)
     → ((row : TallyRow) → Contains rows row → 0 < row.count)
     → (row : TallyRow) → Contains (with_one_more a d rows) row → 0 < row.count
 more_positive a d rows each row m =
-    elim (true_or_false (list_any (is_tally_of a d) rows)) [
+    elim (cases_Bool (list_any (is_tally_of a d) rows)) [
       | inl there ↦ raised_positive a d rows each row (rw there at m)
       | inr absent ↦ (let m' : Contains (record { account = a; day = d; count = 1 } ∷ rows) row = rw absent at m in
           elim (member_cases (record { account = a; day = d; count = 1 }) row rows m') [
@@ -99,7 +90,7 @@ tally_rows b sound row =
     subst (λ t. Contains t.tallies row ↔ ((row.count ≡ count_of_day row.account row.day b) × (0 < row.count)))
     (replayed_is b sound) (
       λ m. ((tallies_count b).each row m, positive b row m),
-      λ counted. elim (true_or_false (list_any (is_tally_of row.account row.day) (replayed b).tallies)) [
+      λ counted. elim (cases_Bool (list_any (is_tally_of row.account row.day) (replayed b).tallies)) [
         | inl there ↦
             (let found = passing (is_tally_of row.account row.day) (replayed b).tallies there in
             let key = tally.key_is row.account row.day found.0.account found.0.day found.2 in

@@ -1,21 +1,14 @@
 -- Serial numbers fall along a history, newest entry first: look-ups of stamps in the tables are the history's.
-use Rattle.std.proofs.Common.{◌≡◌, ℕ, ◌<◌, ◌≤◌, max, List, [], ◌∷◌, map, Option}
-use Rattle.std.proofs.Common.{Some, None, option_map, refl, ap, subst, arith}
-use Rattle.std.specs.List.{AllByRecursion}
-use Rattle.std.proofs.Math.Nat.{le-max_left, le-max_right}
 use Rattle.book.specs.Rows.{StampRow}
-use Rattle.tables.specs.Found.{IsGreatestAs}
-use Rattle.tables.specs.Queries.{ShowsLast}
+use Rattle.store.proofs.Words.{AllByRecursion, History, IsGreatestAs, IsSound, List, None, Option, ReservationValue}
+use Rattle.store.proofs.Words.{Reserved, ShowsLast, Some, [], ap, arith, first_of, greatest_of, last_of, le-max_left}
+use Rattle.store.proofs.Words.{le-max_right, map, max, option_map, refl, reservations, stamp_of, stamps, subst}
+use Rattle.store.proofs.Words.{token_of, ℕ, ◌<◌, ◌∷◌, ◌≡◌, ◌≤◌}
 use Rattle.tables.specs.declared.rows.LastStamp.{LastStamp}
-use Rattle.book.specs.History.{Reserved, History}
-use Rattle.book.specs.History.{ReservationValue, reservations, greatest_of}
-use Rattle.book.specs.History.{token_of, stamp_of, stamps, first_of}
-use Rattle.book.specs.Sound.{IsSound}
-use Rattle.store.specs.Replay.{replayed}
-use Rattle.book.specs.Values.{last_of}
-use Rattle.store.specs.Steps.{last_from}
 use Rattle.store.proofs.Members.{IsFalling, IsFirstAs, falling_map, greatest_is_first}
 use Rattle.store.proofs.Stamps.{stamps_are}
+use Rattle.store.specs.auxiliary.Replay.{replayed}
+use Rattle.store.specs.auxiliary.Steps.{last_from}
 
 -- none has a serial number above the greatest
 pub none_above : (rs : List ReservationValue) (n : ℕ) → greatest_of rs < n → AllByRecursion (λ r. r.serial < n) rs

@@ -1,13 +1,9 @@
 -- What a history has of a kind, such as its identities, is gathered one after the other.
-use Rattle.std.proofs.Common.{◌≡◌, ℕ, zero, suc, List, [], ◌∷◌, ◌++◌, length, map, take, slice_get, Some, None}
-use Rattle.std.proofs.Common.{refl, sym, ap, ◌∙◌, subst}
-use Rattle.sqlite_trees.specs.declared.store.Store.{Ghosts}
-use Rattle.tables.specs.Base.{BaseValue, IsHonest, IsOpen}
-use Rattle.book.specs.History.{History}
-use Rattle.book.specs.Stands.{Stands, OnlyLooks}
-use Rattle.store.specs.Stands.{over_tables}
+use Rattle.store.proofs.Words.{BaseValue, Ghosts, History, IsHonest, IsOpen, List, None, OnlyLooks, Some, Stands, []}
+use Rattle.store.proofs.Words.{ap, length, refl, slice_get, subst, suc, sym, take, zero, ℕ, ◌++◌, ◌∙◌, ◌∷◌, ◌≡◌}
 use Rattle.store.proofs.AtNumber.{get_none}
 use Rattle.store.proofs.Walk.{looks_after}
+use Rattle.store.specs.Stands.{over_tables}
 
 take_next : {X : Type 0} (xs : List X) (k : ℕ) (x : X) → slice_get xs k ≡ Some x
     → take (suc k) xs ≡ take k xs ++ x ∷ []
@@ -37,10 +33,6 @@ nothing_gathered g all old = record {
   opened = λ h o. o;
   gathered = λ h b s. refl;
 }
-
-pub one_more : {X Y : Type 0} (f : X → Y) (xs : List X) (x : X) → map f (xs ++ x ∷ []) ≡ map f xs ++ f x ∷ []
-one_more f [] x = refl
-one_more f (y ∷ xs) x = ap (λ rest. f y ∷ rest) (one_more f xs x)
 
 longer : {X : Type 0} (xs : List X) (y : X) → length (xs ++ y ∷ []) ≡ suc (length xs)
 longer [] y = refl

@@ -1,16 +1,12 @@
 -- The identities of the tables are the history's, numbered in the order of their entries.
-use Rattle.std.proofs.Common.{◌≡◌, ℕ, suc, ◌<◌, ◌+◌, max, List, [], ◌∷◌, length, map, Option, refl, ap, ◌∙◌, arith}
-use Rattle.std.specs.List.{AllByRecursion}
-use Rattle.tables.specs.Changes.{greatest_by}
-use Rattle.tables.specs.Tables.{InstalledRow, StampRow}
-use Rattle.book.specs.History.{Installed, InstalledValue, ReservationValue, History, installations, reservations}
-use Rattle.book.specs.History.{greatest_of, greatest_serial, stamp_of, token_of}
-use Rattle.book.specs.Identities.{installed_rows}
-use Rattle.book.specs.Sound.{IsSound}
-use Rattle.store.specs.Replay.{replayed}
+use Rattle.store.proofs.Words.{AllByRecursion, History, Installed, InstalledRow, InstalledValue, IsSound, List, Option}
+use Rattle.store.proofs.Words.{ReservationValue, StampRow, [], ap, arith, greatest_by, greatest_of, greatest_serial}
+use Rattle.store.proofs.Words.{installations, installed_rows, length, map, max, refl, reservations, stamp_of, suc}
+use Rattle.store.proofs.Words.{token_of, ℕ, ◌+◌, ◌<◌, ◌∙◌, ◌∷◌, ◌≡◌}
 use Rattle.store.proofs.Members.{IsFalling}
 use Rattle.store.proofs.Numbered.{max_more}
 use Rattle.store.proofs.Stamps.{stamps_are}
+use Rattle.store.specs.auxiliary.Replay.{replayed}
 
 pub length_rows : (b : History) → length (installed_rows b) ≡ length (installations b)
 length_rows [] = refl

@@ -1,25 +1,17 @@
 -- What was looked up of an owner's deposits, by number: the next of them, and the reference of one.
-use Rattle.std.proofs.Common.{◌≡◌, ℕ, zero, suc, ◌<◌, ◌≤◌, ◌==◌, nat_lt, Bool, true, false, cond, List, [], ◌∷◌}
-use Rattle.std.proofs.Common.{◌++◌, map, filter, length, get_or, Option, Some, None, refl, sym, ap, ◌∙◌, subst, subst₂}
-use Rattle.std.proofs.Common.{inl, inr, arith, Contains, HoldsAt, String, string_bytes, leb, ltb}
-use Rattle.std.specs.declared.alloc.Global.{Global}
-use Rattle.std.specs.List.Sorted.{IsNonDecreasingBy, IsPartitionPoint}
-use Rattle.std.specs.Str.{bytes_eq}
-use Rattle.std.proofs.lemmas.Bool.{eqb-true, eq-eqb, ltb-true, ltb-false, lt-ltb, leb-true, leb-false}
-use Rattle.std.proofs.lemmas.List.{length-map, get_or-map}
-use Rattle.std.proofs.lemmas.List.Elements.{Contains-get_or, at_from_Contains}
-use Rattle.std.proofs.lemmas.List.Sorted.{Contains-permutation, IsPermutation-sym}
-use Rattle.tables.specs.Found.{IsFoundAs, IsLeastAs}
-use Rattle.tables.specs.Queries.{ShowsDepositSerial, ShowsReference, is_owned, is_owned_after, is_owned_by}
-use Rattle.tables.specs.Queries.{label_of, label_view}
-use Rattle.tables.specs.Tables.{DepositRow}
-use Rattle.tables.specs.declared.rows.Label.{Label}
-use Rattle.book.specs.History.{History}
-use Rattle.store.specs.Replay.{replayed}
-use Rattle.store.specs.Steps.{AreLabels, AreOwned}
-use Rattle.store.specs.declared.labels.Owned.{Owned}
+use Rattle.store.proofs.Words.{Bool, Contains, Contains-get_or, Contains-permutation, DepositRow, Global, History}
+use Rattle.store.proofs.Words.{HoldsAt, IsFoundAs, IsLeastAs, IsNonDecreasingBy, IsPartitionPoint, IsPermutation-sym}
+use Rattle.store.proofs.Words.{Label, List, None, Option, ShowsDepositSerial, ShowsReference, Some, String, []}
+use Rattle.store.proofs.Words.{and_parts, ap, arith, at_from_Contains, bytes_eq, cases_Bool, cond, eq-eqb, eqb-true}
+use Rattle.store.proofs.Words.{false, filter, get_or, get_or-map, inl, inr, is_owned, is_owned_after, is_owned_by}
+use Rattle.store.proofs.Words.{label_of, label_view, leb, leb-false, leb-true, length, length-map, lt-ltb, ltb}
+use Rattle.store.proofs.Words.{ltb-false, ltb-true, map, nat_lt, refl, string_bytes, subst, subst₂, suc, sym, true}
+use Rattle.store.proofs.Words.{zero, ℕ, ◌++◌, ◌<◌, ◌==◌, ◌∙◌, ◌∷◌, ◌≡◌, ◌≤◌}
 use Rattle.store.proofs.CursorMoves.{any_default}
-use Rattle.store.proofs.Members.{member_here, member_after, member_cases, no_member, both_true, true_or_false}
+use Rattle.store.proofs.Members.{member_after, member_cases, member_here, no_member}
+use Rattle.store.specs.auxiliary.Replay.{replayed}
+use Rattle.store.specs.auxiliary.Steps.{AreLabels, AreOwned}
+use Rattle.store.specs.declared.labels.Owned.{Owned}
 
 map_member : {X Y : Type 0} (f : X → Y) (xs : List X) (y : X) → Contains xs y → Contains (map f xs) (f y)
 map_member f [] y m = absurd (no_member y m)
@@ -111,11 +103,11 @@ module _ (owner : List ℕ) (rows : List DepositRow) (labels : List Label) (are 
     beyond : (x : DepositRow) → Contains rows x → is_owned_after owner after x ≡ true
         → (k : ℕ) × (k < length labels) × (at ≤ k) × ((d : Label) → (get_or labels k d).serial ≡ x.serial)
     beyond x m t =
-        let parts = both_true (is_owned_by owner x) (nat_lt after x.serial) t in
+        let parts = and_parts (is_owned_by owner x) (nat_lt after x.serial) t in
         let later = ltb-true after x.serial parts.1 in
         let place = place_of_row x m parts.0 in
         let same = place.3 place.0 in
-        elim (true_or_false (nat_lt place.1 at)) [
+        elim (cases_Bool (nat_lt place.1 at)) [
           | inl before ↦ (let low = ltb-true place.1 at before in
               let not_after = leb-true _ _ (point.0 place.1 place.0 (omega arith) low) in
               absurd (omega (arith, not_after, same, later)))
@@ -126,7 +118,7 @@ module _ (owner : List ℕ) (rows : List DepositRow) (labels : List Label) (are 
     pub none_after : length labels ≤ at
         → IsLeastAs ShowsDepositSerial (λ row. row.serial) (is_owned_after owner after) rows None
     none_after past = λ x m.
-        elim (true_or_false (is_owned_after owner after x)) [
+        elim (cases_Bool (is_owned_after owner after x)) [
           | inl t ↦ (let k = beyond x m t in absurd (omega (arith, past, k.1, k.2)))
           | inr f ↦ f
         ]
@@ -154,11 +146,11 @@ module _ (owner : List ℕ) (rows : List DepositRow) (labels : List Label) (are 
     there : (x : DepositRow) → Contains rows x → is_owned number owner x ≡ true
         → (at < length labels) × ((d : Label) → (get_or labels at d).serial ≡ number)
     there x m t =
-        let parts = both_true (x.serial == number) (bytes_eq x.owner owner) t in
+        let parts = and_parts (x.serial == number) (bytes_eq x.owner owner) t in
         let is : x.serial ≡ number = eqb-true x.serial number parts.0 in
         let place = place_of_row x m parts.1 in
         let same = place.3 place.0 in
-        elim (true_or_false (nat_lt place.1 at)) [
+        elim (cases_Bool (nat_lt place.1 at)) [
           | inl before ↦ (let low = ltb-true place.1 at before in
               let less = ltb-true _ _ (point.0 place.1 place.0 (omega arith) low) in
               absurd (omega (arith, less, same, is)))
@@ -175,7 +167,7 @@ module _ (owner : List ℕ) (rows : List DepositRow) (labels : List Label) (are 
 
     pub none_there : length labels ≤ at → IsFoundAs ShowsReference (is_owned number owner) rows None
     none_there past = λ x m.
-        elim (true_or_false (is_owned number owner x)) [
+        elim (cases_Bool (is_owned number owner x)) [
           | inl t ↦ (let found = there x m t in absurd (omega (arith, found.0, past)))
           | inr f ↦ f
         ]
@@ -183,7 +175,7 @@ module _ (owner : List ℕ) (rows : List DepositRow) (labels : List Label) (are 
     pub another_there : (d : Label) → number < (get_or labels at d).serial
         → IsFoundAs ShowsReference (is_owned number owner) rows None
     another_there d more = λ x m.
-        elim (true_or_false (is_owned number owner x)) [
+        elim (cases_Bool (is_owned number owner x)) [
           | inl t ↦ (let found = there x m t in absurd (omega (arith, found.1 d, more)))
           | inr f ↦ f
         ]

@@ -1,4 +1,3 @@
-mod Rows
 pub mod Alike
 pub mod Asked
 pub mod AtNumber
@@ -20,6 +19,7 @@ pub mod Migration
 pub mod Numbered
 pub mod Readers
 pub mod Replayed
+mod Rows
 pub mod Same
 pub mod Stamps
 pub mod Stops
@@ -27,3 +27,4 @@ pub mod Tables
 pub mod Tallies
 pub mod Unopened
 pub mod Walk
+mod Words

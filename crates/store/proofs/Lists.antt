@@ -1,28 +1,20 @@
 -- A walk from one visible deposit to the next lists all of them, by number.
-use Rattle.std.proofs.Common.{◌≡◌, ℕ, zero, suc, ◌<◌, ◌≤◌, ◌+◌, ◌-◌, ◌==◌, ◌&&◌, ◌||◌, min, nat_lt, Bool, true, false}
-use Rattle.std.proofs.Common.{cond, List, [], ◌∷◌, ◌++◌, filter_map, Option, Some, None, option_map}
-use Rattle.std.proofs.Common.{option_and_then, option_to_list, refl, sym, ap, ◌∙◌, subst, inl, inr, ◌⊎◌, arith}
-use Rattle.std.proofs.Common.{Contains, IfSome, length, map, get_or}
-use Rattle.std.specs.Option.{is_some}
-use Rattle.std.specs.List.{list_any, range_with_len}
-use Rattle.std.specs.Str.{bytes_eq}
-use Rattle.std.proofs.lemmas.Bool.{eqb-true, eq-eqb, ltb-true, ltb-false, lt-ltb, le-leb}
-use Rattle.std.proofs.lemmas.List.Elements.{filter_map-append}
-use Rattle.tables.specs.Found.{IsLeastAs}
-use Rattle.tables.specs.Tables.{DepositRow, ReaderRow, is_reader_row, name_of, rights_of}
-use Rattle.tables.specs.Queries.{ShowsDepositSerial, ShowsReaderSerial, is_owned}
-use Rattle.tables.specs.Queries.{is_owned_after, is_readable_after}
-use Rattle.book.specs.History.{History, deposit_at, reservation_at, greatest_serial}
-use Rattle.book.specs.Readers.{Reader, Account, Group, Viewer}
-use Rattle.book.specs.Rights.{ListedValue, listed_as, is_reader, may_read, shown_to, seen_by, is_visible}
-use Rattle.book.specs.Rights.{listed_at, listed}
-use Rattle.book.specs.Sound.{IsSound, greatest_number}
-use Rattle.store.specs.Steps.{IsNextOf, IsNextSeen, IsNextReadable, AreCursors, AreNextReadable, least_of, least_in}
-use Rattle.store.specs.Steps.{later_of, listing_at}
-use Rattle.store.specs.Replay.{replayed}
-use Rattle.store.proofs.DepositRows.{visible_view, none_beyond, serials_within}
+use Rattle.store.proofs.Words.{Account, Bool, Contains, DepositRow, Group, History, IfSome, IsLeastAs, IsSound, List}
+use Rattle.store.proofs.Words.{ListedValue, None, Option, Reader, ReaderRow, ShowsDepositSerial, ShowsReaderSerial}
+use Rattle.store.proofs.Words.{Some, Viewer, [], and_parts, ap, arith, bytes_eq, cases_Bool, cond, deposit_at, eq-eqb}
+use Rattle.store.proofs.Words.{eqb-true, false, filter_map, filter_map-append, get_or, greatest_number, greatest_serial}
+use Rattle.store.proofs.Words.{inl, inr, is_owned, is_owned_after, is_readable_after, is_reader, is_reader_row, is_some}
+use Rattle.store.proofs.Words.{is_visible, le-leb, length, list_any, listed, listed_as, listed_at, lt-ltb, ltb-false}
+use Rattle.store.proofs.Words.{ltb-true, map, may_read, min, name_of, nat_lt, option_and_then, option_map}
+use Rattle.store.proofs.Words.{option_to_list, range_with_len, refl, reservation_at, rights_of, seen_by, shown_to}
+use Rattle.store.proofs.Words.{subst, suc, sym, true, zero, ℕ, ◌&&◌, ◌++◌, ◌+◌, ◌-◌, ◌<◌, ◌==◌, ◌||◌, ◌∙◌, ◌∷◌, ◌≡◌}
+use Rattle.store.proofs.Words.{◌≤◌, ◌⊎◌}
+use Rattle.store.proofs.DepositRows.{none_beyond, serials_within, visible_view}
+use Rattle.store.proofs.Members.{none_pass, some_pass}
 use Rattle.store.proofs.Readers.{rights_are}
-use Rattle.store.proofs.Members.{both_true, true_or_false, none_pass, some_pass}
+use Rattle.store.specs.auxiliary.Replay.{replayed}
+use Rattle.store.specs.auxiliary.Steps.{AreCursors, AreNextReadable, IsNextOf, IsNextReadable, IsNextSeen, later_of}
+use Rattle.store.specs.auxiliary.Steps.{least_in, least_of, listing_at}
 
 -- ---- the next row
 
@@ -30,7 +22,7 @@ passes_later : {X : Type 0} (key : X → ℕ) (mine : X → Bool) (x : X) (n aft
     → ((key x == n) && mine x) ≡ true
     → ((mine x && nat_lt after (key x)) ≡ true) × (key x ≡ n)
 passes_later key mine x n after later t =
-    let parts = both_true (key x == n) (mine x) t in
+    let parts = and_parts (key x == n) (mine x) t in
     let is : key x ≡ n = eqb-true (key x) n parts.0 in
     let lt : nat_lt after (key x) ≡ true = lt-ltb after (key x) (omega (arith, later, is)) in
     (rw (parts.1, lt) refl, is)
@@ -42,13 +34,13 @@ next_row {X} key mine rows after None found =
     λ n later. none_pass (λ x. (key x == n) && mine x) rows (fails n later) where
       fails : (n : ℕ) → after < n → (x : X) → Contains rows x → ((key x == n) && mine x) ≡ false
       fails n later x m =
-          elim (true_or_false ((key x == n) && mine x)) [
+          elim (cases_Bool ((key x == n) && mine x)) [
             | inl t ↦ (let passes = passes_later key mine x n after later t in let fails = found x m in let no =
                 passes.0 in cc)
             | inr f ↦ f
           ]
 next_row {X} key mine rows after (Some next) (x, m, passes, least, shows) =
-    let parts = both_true (mine x) (nat_lt after (key x)) passes in
+    let parts = and_parts (mine x) (nat_lt after (key x)) passes in
     let lt : after < key x = ltb-true after (key x) parts.1 in
     let here : ((key x == next) && mine x) ≡ true = rw (eq-eqb (key x) next (sym shows), parts.0) refl in
     (omega (arith, lt, shows), some_pass (λ x. (key x == next) && mine x) rows x m here, between) where
@@ -56,7 +48,7 @@ next_row {X} key mine rows after (Some next) (x, m, passes, least, shows) =
       between n later before = none_pass (λ x. (key x == n) && mine x) rows fails where
         fails : (y : X) → Contains rows y → ((key y == n) && mine y) ≡ false
         fails y k =
-            elim (true_or_false ((key y == n) && mine y)) [
+            elim (cases_Bool ((key y == n) && mine y)) [
               | inl t ↦ (let passes = passes_later key mine y n after later t in
                   let above = least y k passes.0 in absurd (omega (arith, above, passes.1, shows, before)))
               | inr f ↦ f
@@ -64,7 +56,7 @@ next_row {X} key mine rows after (Some next) (x, m, passes, least, shows) =
 
 nat_cases : (n m : ℕ) → (n ≤ m) ⊎ (m < n)
 nat_cases n m =
-    elim (true_or_false (nat_lt m n)) [
+    elim (cases_Bool (nat_lt m n)) [
       | inl t ↦ inr (ltb-true m n t)
       | inr f ↦ inl (omega (arith, ltb-false m n f))
     ]

@@ -1,10 +1,7 @@
 -- Members of a list: where they stand, and searches that find one.
-use Rattle.std.proofs.Common.{◌≡◌, ℕ, zero, suc, ◌<◌, Bool, true, false, ◌&&◌, ◌||◌}
-use Rattle.std.proofs.Common.{List, [], ◌∷◌, map, find, Option, Some, None, refl, sym, ap, ◌∙◌}
-use Rattle.std.proofs.Common.{subst, inl, inr, ◌⊎◌, arith, Contains}
-use Rattle.std.specs.List.{AllByRecursion, list_any}
-use Rattle.tables.specs.Found.{IsFoundAs, IsGreatestAs}
-use Rattle.book.specs.History.{first_of}
+use Rattle.store.proofs.Words.{AllByRecursion, Bool, Contains, IsFoundAs, IsGreatestAs, List, None, Option, Some, []}
+use Rattle.store.proofs.Words.{ap, arith, cases_Bool, false, find, first_of, inl, inr, list_any, map, or_parts, refl}
+use Rattle.store.proofs.Words.{subst, suc, sym, true, zero, ℕ, ◌<◌, ◌||◌, ◌∙◌, ◌∷◌, ◌≡◌, ◌⊎◌}
 
 pub member_here : {X : Type 0} (x : X) (xs : List X) → Contains (x ∷ xs) x
 member_here x xs = (0, omega arith, refl)
@@ -28,18 +25,6 @@ pub each_of : {X : Type 0} (P : X → Type 0) (xs : List X) → ((y : X) → Con
 each_of P [] f = tt
 each_of P (x ∷ xs) f = (f x (member_here x xs), each_of P xs (λ y m. f y (member_after x y xs m)))
 
-pub both_true : (a b : Bool) → (a && b) ≡ true → (a ≡ true) × (b ≡ true)
-both_true true b e = (refl, e)
-both_true false b e = cc
-
-pub neither_true : (a b : Bool) → (a || b) ≡ false → (a ≡ false) × (b ≡ false)
-neither_true true b e = cc
-neither_true false b e = (refl, e)
-
-pub true_or_false : (a : Bool) → (a ≡ true) ⊎ (a ≡ false)
-true_or_false true = inl refl
-true_or_false false = inr refl
-
 -- a member that passes makes some pass
 pub some_pass : {X : Type 0} (p : X → Bool) (xs : List X) (y : X) → Contains xs y → p y ≡ true → list_any p xs ≡ true
 some_pass p [] y m e = absurd (no_member y m)
@@ -59,7 +44,7 @@ none_pass p (x ∷ xs) f = rw (f x (member_here x xs)) (none_pass p xs (λ y m. 
 
 pub fails_each : {X : Type 0} (p : X → Bool) (xs : List X) (y : X) → list_any p xs ≡ false → Contains xs y → p y ≡ false
 fails_each p xs y none m =
-    elim (true_or_false (p y)) [ inl e ↦ (let some = some_pass p xs y m e in cc) | inr e ↦ e ]
+    elim (cases_Bool (p y)) [ inl e ↦ (let some = some_pass p xs y m e in cc) | inr e ↦ e ]
 
 -- two members that pass are the same
 abbrev pub IsSingle : {X : Type 0} → (X → Bool) → List X → Type 0
@@ -67,12 +52,12 @@ IsSingle {X} p xs = (x y : X) → Contains xs x → Contains xs y → p x ≡ tr
 
 pub find_none : {X : Type 0} (p : X → Bool) (xs : List X) → list_any p xs ≡ false → find p xs ≡ None
 find_none p [] e = refl
-find_none p (x ∷ xs) e = let parts = neither_true (p x) (list_any p xs) e in rw parts.0 (find_none p xs parts.1)
+find_none p (x ∷ xs) e = let parts = or_parts (p x) (list_any p xs) e in rw parts.0 (find_none p xs parts.1)
 
 pub found_member : {X : Type 0} (p : X → Bool) (xs : List X) (y : X) → find p xs ≡ Some y → Contains xs y × (p y ≡ true)
 found_member p [] y e = cc
 found_member p (x ∷ xs) y e =
-    elim (true_or_false (p x)) [
+    elim (cases_Bool (p x)) [
       | inl t ↦ (let here : Some x ≡ Some y = sym (rw t refl) ∙ e in let same : x ≡ y = cc in
           (subst (λ v. Contains (x ∷ xs) v) same (member_here x xs), subst (λ v. p v ≡ true) same t))
       | inr f ↦ (let rest = found_member p xs y (sym (rw f refl) ∙ e) in (member_after x y xs rest.0, rest.1))
@@ -83,7 +68,7 @@ find_some : {X : Type 0} (p : X → Bool) (xs : List X) (y : X) → Contains xs 
     → (x : X) × (find p xs ≡ Some x)
 find_some p [] y m e = absurd (no_member y m)
 find_some p (x ∷ xs) y m e =
-    elim (true_or_false (p x)) [
+    elim (cases_Bool (p x)) [
       | inl t ↦ (x, rw t refl)
       | inr f ↦ (let rest = find_some p xs y (later f) e in (rest.0, rw f rest.1))
     ] where

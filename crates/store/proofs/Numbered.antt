@@ -1,20 +1,14 @@
 -- Calibrations and holds are numbered in the order of their entries, so the greatest number is the newest's.
-use Rattle.std.proofs.Common.{◌≡◌, ℕ, suc, ◌<◌, ◌+◌, max, ◌||◌, Bool, ℤ, List, [], ◌∷◌, length}
-use Rattle.std.proofs.Common.{Option, Some, None, option_map, refl, sym, ap, ◌∙◌, subst, arith}
-use Rattle.std.proofs.Math.Nat.{max-eq_left}
-use Rattle.std.specs.List.{AllByRecursion, list_any}
-use Rattle.tables.specs.Changes.{greatest_by, next_by}
-use Rattle.tables.specs.Tables.{CalibrationRow, HoldRow}
-use Rattle.tables.specs.Found.{IsGreatestAs}
-use Rattle.tables.specs.Queries.{ShowsCalibration, ShowsNumber, holds_at}
-use Rattle.tables.specs.declared.rows.NumberedCalibration.{NumberedCalibration}
-use Rattle.book.specs.History.{Calibrated, Held, History}
-use Rattle.book.specs.History.{CalibrationValue, HoldValue, calibrations, holds, latest_calibration, is_held, first_of}
-use Rattle.store.specs.Steps.{calibration_from, count_of}
-use Rattle.tables.specs.Changes.{calibration_row, hold_row}
-use Rattle.store.specs.TablesOf.{numbered}
-use Rattle.store.specs.Replay.{replayed}
+use Rattle.store.proofs.Words.{AllByRecursion, Bool, Calibrated, CalibrationRow, CalibrationValue, Held, History}
+use Rattle.store.proofs.Words.{HoldRow, HoldValue, IsGreatestAs, List, None, NumberedCalibration, Option}
+use Rattle.store.proofs.Words.{ShowsCalibration, ShowsNumber, Some, [], ap, arith, calibration_row, calibrations}
+use Rattle.store.proofs.Words.{first_of, greatest_by, hold_row, holds, holds_at, is_held, latest_calibration, length}
+use Rattle.store.proofs.Words.{list_any, map, max, max-eq_left, next_by, option_map, refl, subst, suc, sym, ℕ, ℤ, ◌+◌}
+use Rattle.store.proofs.Words.{◌<◌, ◌||◌, ◌∙◌, ◌∷◌, ◌≡◌}
 use Rattle.store.proofs.Members.{IsFalling, IsFirstAs, greatest_is_first}
+use Rattle.store.specs.TablesOf.{numbered}
+use Rattle.store.specs.auxiliary.Replay.{replayed}
+use Rattle.store.specs.auxiliary.Steps.{calibration_from, count_of}
 
 pub max_more : (n : ℕ) → max (n + 1) n ≡ suc n
 max_more n = let one : n + 1 ≡ suc n = omega arith in max-eq_left (omega arith) ∙ one
@@ -48,6 +42,13 @@ next_numbered : {X Y : Type 0} (row : X → ℕ → Y) (key : Y → ℕ) → ((x
     (rows : List Y) → rows ≡ numbered row xs → next_by key rows ≡ length xs + 1
 next_numbered row key is xs rows same =
     ap (λ (rows : _). greatest_by key rows + 1) same ∙ ap (λ n. n + 1) (greatest_numbered row key is xs)
+
+-- what the rows say besides their numbers
+pub unnumbered : {X Y : Type 0} (row : X → ℕ → Y) (from : Y → X) → ((x : X) (n : ℕ) → from (row x n) ≡ x) → (xs : List X)
+    → map from (numbered row xs) ≡ xs
+unnumbered row from is [] = refl
+unnumbered row from is (x ∷ xs) =
+    ap (λ z. z ∷ map from (numbered row xs)) (is x _) ∙ ap (λ zs. x ∷ zs) (unnumbered row from is xs)
 
 pub calibrations_are : (b : History) → (replayed b).calibrations ≡ numbered calibration_row (calibrations b)
 calibrations_are [] = refl

@@ -1,33 +1,19 @@
 -- The reader rows of the tables are the current readers, each once.
-use Rattle.std.proofs.Common.{◌≡◌, ℕ, ◌<◌, ◌^◌, ◌==◌, ◌&&◌, not, Bool, true, false, cond, List, [], ◌∷◌, filter}
-use Rattle.std.proofs.Common.{refl, sym, ap, ◌∙◌, subst, inl, inr}
-use Rattle.std.proofs.Common.{IsPermutation}
-use Rattle.std.specs.List.{AllByRecursion, list_any}
-use Rattle.std.specs.Str.{bytes_eq}
-use Rattle.std.proofs.lemmas.Bool.{eqb-true, eq-eqb}
-use Rattle.std.proofs.lemmas.Slice.Eq.{bytes_eq-Decides}
 use Rattle.std.proofs.lemmas.Map.Views.{any-filter_same}
-use Rattle.std.proofs.lemmas.List.Sorted.{IsPermutation-refl, IsPermutation-trans}
-use Rattle.std.proofs.lemmas.List.Sorted.{IsPermutation-cons, IsPermutation-append_left, IsPermutation-append_comm}
-use Rattle.std.proofs.lemmas.List.Sorted.{IsPermutation-map}
-use Rattle.sqlite_trees.specs.Tree.{Trees}
-use Rattle.sqlite.specs.State.{State}
-use Rattle.tables.specs.Base.{StandsFor}
-use Rattle.tables.specs.Layout.{Holds, cells_of, rows_of}
-use Rattle.tables.specs.Names.{Name}
-use Rattle.tables.specs.Schema.{the_version}
-use Rattle.tables.specs.Tables.{Tables, ReaderRow, is_reader_row, name_of, rights_of}
-use Rattle.book.specs.History.{Granted, Revoked, History}
-use Rattle.book.specs.Readers.{Reader, Account, Group}
-use Rattle.book.specs.Rights.{is_reader}
-use Rattle.book.proofs.Rights.{reader_after_grant, reader_after_revocation}
-use Rattle.store.specs.Replay.{replayed}
-use Rattle.store.proofs.Members.{both_true, neither_true, true_or_false}
+use Rattle.store.proofs.Words.{Account, AllByRecursion, Bool, Granted, Group, History, Holds, IsPermutation}
+use Rattle.store.proofs.Words.{IsPermutation-append_comm, IsPermutation-append_left, IsPermutation-cons}
+use Rattle.store.proofs.Words.{IsPermutation-map, IsPermutation-refl, IsPermutation-trans, List, Name, Reader}
+use Rattle.store.proofs.Words.{ReaderRow, Revoked, StandsFor, State, Tables, Trees, [], and_parts, ap, bytes_eq}
+use Rattle.store.proofs.Words.{bytes_eq-Decides, cases_Bool, cells_of, cond, eq-eqb, eqb-true, false, filter, inl, inr}
+use Rattle.store.proofs.Words.{is_reader, is_reader_row, list_any, name_of, not, or_parts, reader_after_grant}
+use Rattle.store.proofs.Words.{reader_after_revocation, refl, rights_of, rows_of, subst, sym, the_version, true, ℕ}
+use Rattle.store.proofs.Words.{◌&&◌, ◌<◌, ◌==◌, ◌^◌, ◌∙◌, ◌∷◌, ◌≡◌}
+use Rattle.store.specs.auxiliary.Replay.{replayed}
 
 -- a test of a key is passed by that key alone
 pub key_is : (n : ℕ) (a : List ℕ) (m : ℕ) (x : List ℕ) → ((m == n) && bytes_eq x a) ≡ true → (m ≡ n) × (x ≡ a)
 key_is n a m x e =
-    let parts = both_true (m == n) (bytes_eq x a) e in
+    let parts = and_parts (m == n) (bytes_eq x a) e in
     (eqb-true m n parts.0, (bytes_eq-Decides x a).0 parts.1)
 
 pub key_passes : (n : ℕ) (a : List ℕ) (m : ℕ) (x : List ℕ) → m ≡ n → x ≡ a → ((m == n) && bytes_eq x a) ≡ true
@@ -55,7 +41,7 @@ taken_other n a m x rows e =
     any-filter_same (is_reader_row n a) (λ row. not (is_reader_row m x row)) true
     (λ row passes.
     (let k = key_is n a row.serial row.name passes in
-    elim (true_or_false (is_reader_row m x row)) [
+    elim (cases_Bool (is_reader_row m x row)) [
       | inl t ↦ (let l = key_is m x row.serial row.name t in
           let same : ((m == n) && bytes_eq x a) ≡ true = key_passes n a m x (sym l.0 ∙ k.0) (sym l.1 ∙ k.1) in cc)
       | inr f ↦ rw f refl
@@ -67,7 +53,7 @@ given_rows : (m n : ℕ) (x a : List ℕ) (rows : List ReaderRow) (v : Bool) →
     (record { serial = m; name = x } ∷ filter (λ row. not (is_reader_row m x row)) rows)
     ≡ cond ((m == n) && bytes_eq x a) true v
 given_rows m n x a rows v are =
-    elim (true_or_false ((m == n) && bytes_eq x a)) [
+    elim (cases_Bool ((m == n) && bytes_eq x a)) [
       | inl t ↦ rw t refl
       | inr f ↦ rw f (taken_other n a m x rows f ∙ are)
     ]
@@ -76,7 +62,7 @@ taken_rows : (m n : ℕ) (x a : List ℕ) (rows : List ReaderRow) (v : Bool) →
     → list_any (is_reader_row n a) (filter (λ row. not (is_reader_row m x row)) rows)
     ≡ cond ((m == n) && bytes_eq x a) false v
 taken_rows m n x a rows v are =
-    elim (true_or_false ((m == n) && bytes_eq x a)) [
+    elim (cases_Bool ((m == n) && bytes_eq x a)) [
       | inl t ↦ rw t (taken_same n a m x rows t)
       | inr f ↦ rw f (taken_other n a m x rows f ∙ are)
     ]
@@ -138,8 +124,8 @@ none_left : (p q : ReaderRow → Bool) (rows : List ReaderRow) → list_any p ro
     → list_any p (filter q rows) ≡ false
 none_left p q [] e = refl
 none_left p q (row ∷ rows) e =
-    let parts = neither_true (p row) (list_any p rows) e in
-    elim (true_or_false (q row)) [
+    let parts = or_parts (p row) (list_any p rows) e in
+    elim (cases_Bool (q row)) [
       | inl t ↦ rw (t, parts.0) (none_left p q rows parts.1)
       | inr f ↦ rw f (none_left p q rows parts.1)
     ]
@@ -147,7 +133,7 @@ none_left p q (row ∷ rows) e =
 left_once : (q : ReaderRow → Bool) (rows : List ReaderRow) → AreOnce rows → AreOnce (filter q rows)
 left_once q [] once = tt
 left_once q (row ∷ rows) once =
-    elim (true_or_false (q row)) [
+    elim (cases_Bool (q row)) [
       | inl t ↦ rw t (none_left (is_reader_row row.serial row.name) q rows once.0, left_once q rows once.1)
       | inr f ↦ rw f (left_once q rows once.1)
     ]
@@ -181,7 +167,7 @@ none_taken : (p : ReaderRow → Bool) (rows : List ReaderRow) → list_any p row
     → filter (λ row. not (p row)) rows ≡ rows
 none_taken p [] e = refl
 none_taken p (row ∷ rows) e =
-    let parts = neither_true (p row) (list_any p rows) e in rw parts.0 (ap (λ l. row ∷ l) (none_taken p rows parts.1))
+    let parts = or_parts (p row) (list_any p rows) e in rw parts.0 (ap (λ l. row ∷ l) (none_taken p rows parts.1))
 
 swapped : {X : Type 0} (x y : X) (xs : List X) → IsPermutation (x ∷ y ∷ xs) (y ∷ x ∷ xs)
 swapped x y xs = IsPermutation-append_left xs (x ∷ y ∷ []) (y ∷ x ∷ []) (IsPermutation-append_comm (x ∷ []) (y ∷ []))
@@ -191,7 +177,7 @@ pub put_again : (n : ℕ) (a : List ℕ) (rows : List ReaderRow) → AreOnce row
     → IsPermutation (record { serial = n; name = a } ∷ filter (λ row. not (is_reader_row n a row)) rows) rows
 put_again n a [] once e = cc
 put_again n a (row ∷ rows) once e =
-    elim (true_or_false (is_reader_row n a row)) [
+    elim (cases_Bool (is_reader_row n a row)) [
       | inl t ↦ (let is = row_is n a row t in
           let P : ReaderRow → Type 0 = λ r. list_any (is_reader_row r.serial r.name) rows ≡ false in
           let none : list_any (is_reader_row n a) rows ≡ false = subst P is once.0 in
@@ -248,7 +234,7 @@ once_same (x ∷ xs) ys once twice same =
     let others : ReaderRow → Bool = λ row. not (is_reader_row x.serial x.name row) in
     let rest : IsPermutation xs (filter others ys) =
     once_same xs (filter others ys) once.1 (left_once others ys twice)
-    (λ n a. elim (true_or_false (is_reader_row n a x)) [
+    (λ n a. elim (cases_Bool (is_reader_row n a x)) [
       | inl t ↦ (let k = key_is n a x.serial x.name t in
           let P : ℕ → List ℕ → Type 0 = λ m name. list_any (is_reader_row m name) xs ≡ false in
           let none : list_any (is_reader_row n a) xs ≡ false =

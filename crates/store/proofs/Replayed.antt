@@ -1,26 +1,19 @@
 -- The tables after each entry in turn are those of the history.
-use Rattle.std.proofs.Common.{◌≡◌, ℕ, ◌+◌, ◌==◌, ◌&&◌, ◌||◌, not, Bool, true, false, cond, List, [], ◌∷◌, map, filter}
-use Rattle.std.proofs.Common.{filter_map, refl, sym, ap, ◌∙◌, subst, inl, inr, arith}
-use Rattle.std.specs.List.{list_any}
-use Rattle.std.specs.Str.{bytes_eq}
-use Rattle.std.proofs.lemmas.List.Sums.{sum_by-cons}
-use Rattle.tables.specs.Tables.{ReaderRow, TallyRow, is_reader_row, is_tally_of, raised_row}
-use Rattle.book.specs.History.{Reserved, Granted, Revoked, History}
-use Rattle.book.specs.History.{ReservationValue, reservations, day_of, is_of_day, count_of_day}
-use Rattle.book.specs.Readers.{Reader, Account, Group}
-use Rattle.book.proofs.Rights.{reader_after_grant, reader_after_revocation}
-use Rattle.book.specs.Rights.{is_reader}
-use Rattle.book.specs.Sound.{IsSound}
-use Rattle.store.specs.Replay.{replayed}
-use Rattle.store.specs.TablesOf.{tables_of, granted_in, group_granted_in, once, readers_of, group_readers_of}
-use Rattle.store.specs.TablesOf.{firsts, tally_of}
+use Rattle.store.proofs.Words.{Account, Bool, Granted, Group, History, IsSound, List, Reader, ReaderRow}
+use Rattle.store.proofs.Words.{ReservationValue, Reserved, Revoked, TallyRow, [], ap, arith, bytes_eq, cases_Bool, cond}
+use Rattle.store.proofs.Words.{count_of_day, day_of, false, filter, filter_map, inl, inr, is_of_day, is_reader}
+use Rattle.store.proofs.Words.{is_reader_row, is_tally_of, list_any, map, not, or_parts, raised_row, reader_after_grant}
+use Rattle.store.proofs.Words.{reader_after_revocation, refl, reservations, subst, sum_by-cons, sym, true, zero, ℕ}
+use Rattle.store.proofs.Words.{◌&&◌, ◌+◌, ◌==◌, ◌||◌, ◌∙◌, ◌∷◌, ◌≡◌}
 use Rattle.store.proofs.DepositRows.{deposits_are}
 use Rattle.store.proofs.Installed.{identities_are}
-use Rattle.store.proofs.Members.{neither_true, true_or_false}
 use Rattle.store.proofs.Numbered.{calibrations_are, holds_are}
 use Rattle.store.proofs.Readers.{key_is, key_passes, other_kind}
 use Rattle.store.proofs.Stamps.{stamps_are}
 use Rattle.store.proofs.Tallies.{tallies_count}
+use Rattle.store.specs.TablesOf.{firsts, granted_in, group_granted_in, group_readers_of, once, readers_of, tables_of}
+use Rattle.store.specs.TablesOf.{tally_of}
+use Rattle.store.specs.auxiliary.Replay.{replayed}
 use Rattle.store.proofs.Tallies as tally
 
 -- ---- readers
@@ -31,12 +24,12 @@ filter_swap : {X : Type 0} (p p' q : X → Bool) → ((x : X) → q x ≡ true �
 filter_swap p p' q same [] = refl
 filter_swap p p' q same (x ∷ xs) =
     let rest = filter_swap p p' q same xs in
-    elim (true_or_false (q x)) [
-      | inl kept ↦ elim (true_or_false (p x)) [
+    elim (cases_Bool (q x)) [
+      | inl kept ↦ elim (cases_Bool (p x)) [
         | inl passes ↦ rw (passes, kept, same x kept, passes) (ap (λ l. x ∷ l) rest)
         | inr fails ↦ rw (fails, kept, same x kept, fails) rest
       ]
-      | inr dropped ↦ elim (true_or_false (p x)) [
+      | inr dropped ↦ elim (cases_Bool (p x)) [
         | inl passes ↦ rw (passes, dropped) rest
         | inr fails ↦ rw (fails, dropped) rest
       ]
@@ -49,14 +42,14 @@ filter_both p p' q same [] = refl
 filter_both p p' q same (x ∷ xs) =
     let rest = filter_both p p' q same xs in
     let here = same x in
-    elim (true_or_false (q x)) [
-      | inl kept ↦ elim (true_or_false (p x)) [
+    elim (cases_Bool (q x)) [
+      | inl kept ↦ elim (cases_Bool (p x)) [
         | inl passes ↦ (let both : p' x ≡ true = here ∙ rw (kept, passes) refl in
             rw (passes, kept, both) (ap (λ l. x ∷ l) rest))
         | inr fails ↦ (let both : p' x ≡ false = here ∙ rw (kept, fails) refl in rw (fails, both) rest)
       ]
       | inr dropped ↦ (let both : p' x ≡ false = here ∙ rw dropped refl in
-          elim (true_or_false (p x)) [
+          elim (cases_Bool (p x)) [
             | inl passes ↦ rw (passes, dropped, both) rest
             | inr fails ↦ rw (fails, both) rest
           ])
@@ -66,10 +59,10 @@ filter_both p p' q same (x ∷ xs) =
 same_right : (m : ℕ) (x : List ℕ) (row : ReaderRow)
     → ((m == row.serial) && bytes_eq x row.name) ≡ is_reader_row m x row
 same_right m x row =
-    elim (true_or_false (is_reader_row m x row)) [
+    elim (cases_Bool (is_reader_row m x row)) [
       | inl t ↦ (let k = key_is m x row.serial row.name t in
           key_passes row.serial row.name m x (sym k.0) (sym k.1) ∙ sym t)
-      | inr f ↦ elim (true_or_false ((m == row.serial) && bytes_eq x row.name)) [
+      | inr f ↦ elim (cases_Bool ((m == row.serial) && bytes_eq x row.name)) [
         | inl t ↦ (let k = key_is row.serial row.name m x t in
             let there = key_passes m x row.serial row.name (sym k.0) (sym k.1) in cc)
         | inr g ↦ g ∙ sym f
@@ -105,7 +98,7 @@ taken_row : (m : ℕ) (x : List ℕ) (before after : ReaderRow → Bool) (rows :
     → filter (λ other. not (is_reader_row m x other)) (filter before rows) ≡ filter after rows
 taken_row m x before after rows same =
     filter_both before after (λ other. not (is_reader_row m x other))
-    (λ other. same other ∙ elim (true_or_false (is_reader_row m x other)) [
+    (λ other. same other ∙ elim (cases_Bool (is_reader_row m x other)) [
       | inl t ↦ rw t refl
       | inr f ↦ rw f refl
     ]) rows
@@ -192,7 +185,7 @@ none_raised : (a : List ℕ) (d : ℕ) (rows : List TallyRow) → list_any (is_t
     → map (raised_row a d) rows ≡ rows
 none_raised a d [] none = refl
 none_raised a d (row ∷ rows) none =
-    let parts = neither_true (is_tally_of a d row) (list_any (is_tally_of a d) rows) none in
+    let parts = or_parts (is_tally_of a d row) (list_any (is_tally_of a d) rows) none in
     rw parts.0 (ap (λ l. row ∷ l) (none_raised a d rows parts.1))
 
 -- an account and a day have a first reservation where they have any
@@ -200,8 +193,8 @@ firsts_any : (a : List ℕ) (d : ℕ) (rs : List ReservationValue)
     → list_any (is_of_day a d) (firsts rs) ≡ list_any (is_of_day a d) rs
 firsts_any a d [] = refl
 firsts_any a d (r ∷ rs) =
-    elim (true_or_false (list_any (is_of_day r.account (day_of r.gen_time)) rs)) [
-      | inl before ↦ rw before (firsts_any a d rs ∙ elim (true_or_false (is_of_day a d r)) [
+    elim (cases_Bool (list_any (is_of_day r.account (day_of r.gen_time)) rs)) [
+      | inl before ↦ rw before (firsts_any a d rs ∙ elim (cases_Bool (is_of_day a d r)) [
         | inl t ↦ (let k = tally.key_is a d r.account (day_of r.gen_time) t in
             let there : list_any (is_of_day a d) rs ≡ true =
             subst (λ day. list_any (is_of_day a day) rs ≡ true) k.1
@@ -218,7 +211,7 @@ row_raised : (r : ReservationValue) (b : History) (x : ReservationValue)
 row_raised r b x =
     let more = sum_by-cons (λ y. cond (is_of_day x.account (day_of x.gen_time) y) 1 0) r (reservations b) in
     let swap = tally.key_swap r.account (day_of r.gen_time) x.account (day_of x.gen_time) in
-    elim (true_or_false (is_tally_of r.account (day_of r.gen_time) (tally_of b x))) [
+    elim (cases_Bool (is_tally_of r.account (day_of r.gen_time) (tally_of b x))) [
       | inl t ↦ (let other : is_of_day x.account (day_of x.gen_time) r ≡ true = sym swap ∙ t in
           let count : count_of_day x.account (day_of x.gen_time) (Reserved r ∷ b)
           ≡ count_of_day x.account (day_of x.gen_time) b + 1 =
@@ -245,7 +238,7 @@ tallies_replayed (Reserved r ∷ b) =
     ap (map (raised_row a d)) rows
     ∙ mapped_twice (raised_row a d) (tally_of b) (tally_of (Reserved r ∷ b)) (row_raised r b)
     (firsts (reservations b)) in
-    elim (true_or_false (list_any (is_of_day a d) (reservations b))) [
+    elim (cases_Bool (list_any (is_of_day a d) (reservations b))) [
       | inl before ↦ rw (known ∙ before, before) raised
       | inr first ↦
           (let absent = known ∙ first in

@@ -1,12 +1,9 @@
 -- The definitions, computed on a worked history.
-use Rattle.std.proofs.Common.{◌≡◌, ℕ, List, [], ◌∷◌, refl, Some, None, true, false, pos, negsuc, codes}
 use Rattle.book.specs.Rows.{DepositRow}
-use Rattle.book.specs.History.{Reserved, Sealed, Deposited, Calibrated, Held, Granted, Revoked, History}
-use Rattle.book.specs.History.{ReservationValue, greatest_serial, last_gen_time, count_of_day, latest_calibration}
-use Rattle.book.specs.History.{is_held, token_of, deposit_under}
-use Rattle.book.specs.Readers.{Account}
-use Rattle.book.specs.Rights.{seen_by, is_visible, listed}
-use Rattle.book.specs.Values.{viewer_of}
+use Rattle.store.proofs.Words.{Account, Calibrated, Deposited, Granted, Held, History, List, None, ReservationValue}
+use Rattle.store.proofs.Words.{Reserved, Revoked, Sealed, Some, [], codes, count_of_day, deposit_under, false}
+use Rattle.store.proofs.Words.{greatest_serial, is_held, is_visible, last_gen_time, latest_calibration, listed, negsuc}
+use Rattle.store.proofs.Words.{pos, refl, seen_by, token_of, true, viewer_of, ℕ, ◌∷◌, ◌≡◌}
 use Rattle.store.specs.TablesOf.{tables_of}
 
 abbrev alice : List ℕ

@@ -1,24 +1,15 @@
 -- Who keeps the tables of one history keeps those of each that shows the same.
-use Rattle.std.proofs.Common.{◌≡◌, ℕ, List, [], ◌∷◌, map, count_by, refl, sym, ap, ◌∙◌, subst, IsPermutation}
-use Rattle.std.proofs.lemmas.List.Sorted.{IsPermutation-refl}
-use Rattle.sqlite_trees.specs.declared.store.Store.{Ghosts}
-use Rattle.tables.specs.Base.{BaseValue, Keeps}
-use Rattle.tables.specs.Changes.{calibration_row, hold_row}
-use Rattle.tables.specs.Layout.{rows_of}
-use Rattle.tables.specs.Names.{Name}
-use Rattle.tables.specs.Names as name
-use Rattle.tables.specs.Schema.{the_version}
-use Rattle.tables.specs.Tables.{TallyRow}
-use Rattle.book.specs.History.{History, ReservationValue, reservations, stamps, stamp_of, token_of, is_of_day}
-use Rattle.book.specs.History.{day_of}
-use Rattle.book.specs.Readers.{Account, Group}
 use Rattle.book.specs.Shows.{ShowsSame}
-use Rattle.book.specs.Sound.{IsSound}
-use Rattle.store.specs.Replay.{replayed}
-use Rattle.store.specs.TablesOf.{tables_of, numbered, tally_of, firsts}
-use Rattle.store.proofs.Readers.{readers_once, group_readers_once, readers_are, group_readers_are, once_same}
+use Rattle.store.proofs.Words.{Account, BaseValue, Ghosts, Group, History, IsPermutation, IsPermutation-refl, IsSound}
+use Rattle.store.proofs.Words.{Keeps, List, Name, ReservationValue, TallyRow, [], ap, calibration_row, count_by, day_of}
+use Rattle.store.proofs.Words.{hold_row, is_of_day, map, refl, reservations, rows_of, stamp_of, stamps, subst, sym}
+use Rattle.store.proofs.Words.{the_version, token_of, ℕ, ◌∙◌, ◌∷◌, ◌≡◌}
+use Rattle.store.proofs.Readers.{group_readers_are, group_readers_once, once_same, readers_are, readers_once}
 use Rattle.store.proofs.Readers.{stands_reordered}
 use Rattle.store.proofs.Replayed.{replayed_is}
+use Rattle.store.specs.TablesOf.{firsts, numbered, tables_of, tally_of}
+use Rattle.store.specs.auxiliary.Replay.{replayed}
+use Rattle.tables.specs.Names as name
 
 mapped_same : {X Y : Type 0} (f g : X → Y) → ((x : X) → f x ≡ g x) → (xs : List X) → map f xs ≡ map g xs
 mapped_same f g same [] = refl

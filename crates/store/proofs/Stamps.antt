@@ -1,15 +1,10 @@
 -- The stamps of the tables are the reservations with their tokens, newest first, by falling serial numbers.
-use Rattle.std.proofs.Common.{◌≡◌, ℕ, ◌<◌, ◌≤◌, ◌==◌, max, false, cond, List, [], ◌∷◌, map, find}
-use Rattle.std.proofs.Common.{Option, Some, None, refl, sym, ap, ◌∙◌, subst, inl, inr, arith}
-use Rattle.std.proofs.lemmas.Bool.{eq-eqb, ne_eqb}
-use Rattle.std.proofs.lemmas.Bool.Decides.{eqb_tells}
-use Rattle.std.proofs.Math.Nat.{le-max_left, le-max_right}
-use Rattle.tables.specs.Tables.{sealed_row}
-use Rattle.book.specs.History.{Reserved, Sealed, Deposited, History}
-use Rattle.book.specs.History.{ReservationValue, reservations, reservation_at, greatest_of, token_of}
-use Rattle.book.specs.History.{stamp_of, stamps}
-use Rattle.book.specs.Sound.{FitsReserved, FitsSealed, IsSound}
-use Rattle.store.specs.Replay.{replayed}
+use Rattle.store.proofs.Words.{Deposited, FitsReserved, FitsSealed, History, IsSound, List, None, Option}
+use Rattle.store.proofs.Words.{ReservationValue, Reserved, Sealed, Some, [], ap, arith, cond, eq-eqb, eqb_tells, false}
+use Rattle.store.proofs.Words.{find, greatest_of, inl, inr, le-max_left, le-max_right, map, max, ne_eqb, refl}
+use Rattle.store.proofs.Words.{reservation_at, reservations, sealed_row, stamp_of, stamps, subst, sym, token_of, ℕ, ◌<◌}
+use Rattle.store.proofs.Words.{◌==◌, ◌∙◌, ◌∷◌, ◌≡◌, ◌≤◌}
+use Rattle.store.specs.auxiliary.Replay.{replayed}
 
 -- a number above all isn't reserved
 pub absent_above : (rs : List ReservationValue) (n : ℕ) → greatest_of rs < n → find (λ r. r.serial == n) rs ≡ None

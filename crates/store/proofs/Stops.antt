@@ -1,13 +1,9 @@
 -- What an opening finds in its files.
-use Rattle.std.proofs.Common.{◌≡◌, ap, ◌∙◌, sym, subst}
 use Rattle.std.proofs.Math.Logic.{∥∥₁_elim}
-use Rattle.sqlite_disk.specs.declared.Disk.{Ghosts}
 use Rattle.sqlite_trees.specs.Props.{Trees-set}
-use Rattle.sqlite.specs.Effect.{Database, IsDatabase}
-use Rattle.sqlite.specs.Files.{file_state}
-use Rattle.tables.specs.Base.{IsStored}
-use Rattle.tables.specs.Layout.{IsDatabaseOf}
-use Rattle.tables.specs.Tables.{Tables}
+use Rattle.sqlite_disk.specs.declared.Disk.{Ghosts}
+use Rattle.store.proofs.Words.{Database, IsDatabase, IsDatabaseOf, IsStored, Tables, ap, file_state, subst, sym, ◌∙◌}
+use Rattle.store.proofs.Words.{◌≡◌}
 use Rattle.store.specs.Stops.{FindsWhatIsHeld}
 use Rattle.store.specs.TablesOf.{tables_of}
 

@@ -1,11 +1,8 @@
 -- A store's words as a book's, and as those of its tables.
-use Rattle.std.proofs.Common.{◌↔◌}
-use Rattle.sqlite_trees.specs.declared.store.Store.{Ghosts}
-use Rattle.tables.specs.Base.{BaseValue}
-use Rattle.book.specs.History.{History}
-use Rattle.book.specs.Stands.{Stands as BookStands, OnlyLooks as BookLooks}
-use Rattle.store.specs.Stands.{Stands, OnlyLooks, over_tables}
+use Rattle.book.specs.Stands.{OnlyLooks as BookLooks, Stands as BookStands}
+use Rattle.store.proofs.Words.{BaseValue, Ghosts, History, ◌↔◌}
 use Rattle.store.proofs.Calls.{stands_for}
+use Rattle.store.specs.Stands.{OnlyLooks, Stands, over_tables}
 
 book_of : {S : Type 0} (g : Ghosts S) (b : History) (store : BaseValue S) → Stands g b store
     → BookStands (over_tables g) b store

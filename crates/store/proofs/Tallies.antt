@@ -1,26 +1,17 @@
 -- The tallies count the reservations of an account on a day.
-use Rattle.std.proofs.Common.{◌≡◌, ℕ, ◌+◌, ◌/◌, ◌≤◌, min, ◌==◌, ◌&&◌, ◌||◌, Bool, true, false, cond, List, [], ◌∷◌, map}
-use Rattle.std.proofs.Common.{Option, Some, None, refl, sym, ap, ◌∙◌, subst, inl, inr, arith, Contains, unwrap_or}
-use Rattle.std.specs.List.{list_any}
-use Rattle.std.specs.Str.{bytes_eq}
-use Rattle.std.proofs.lemmas.Bool.{eqb-true, eq-eqb}
-use Rattle.std.proofs.lemmas.Bool.Decides.{leb_tells}
-use Rattle.std.proofs.lemmas.Slice.Eq.{bytes_eq-Decides}
-use Rattle.std.proofs.lemmas.List.Sums.{sum_by-cons}
-use Rattle.tables.specs.Tables.{TallyRow, is_tally_of, raised_row, with_one_more}
-use Rattle.tables.specs.Found.{IsFoundAs}
-use Rattle.tables.specs.Queries.{ShowsCount}
-use Rattle.book.specs.History.{Reserved, History}
-use Rattle.book.specs.History.{reservations, day_of, is_of_day, count_of_day}
-use Rattle.book.specs.Sound.{IsSound, greatest_number}
-use Rattle.store.specs.Replay.{replayed}
-use Rattle.store.proofs.Members.{both_true, neither_true, true_or_false, none_pass, fails_each}
-use Rattle.store.proofs.Members.{member_here, member_after, member_cases}
+use Rattle.store.proofs.Words.{Bool, Contains, History, IsFoundAs, IsSound, List, None, Option, Reserved, ShowsCount}
+use Rattle.store.proofs.Words.{Some, TallyRow, [], and_parts, ap, arith, bytes_eq, bytes_eq-Decides, cases_Bool, cond}
+use Rattle.store.proofs.Words.{count_of_day, day_of, eq-eqb, eqb-true, false, greatest_number, inl, inr, is_of_day}
+use Rattle.store.proofs.Words.{is_tally_of, leb_tells, list_any, map, min, or_parts, raised_row, refl, reservations}
+use Rattle.store.proofs.Words.{subst, sum_by-cons, sym, true, unwrap_or, with_one_more, ℕ, ◌&&◌, ◌+◌, ◌/◌, ◌==◌, ◌||◌}
+use Rattle.store.proofs.Words.{◌∙◌, ◌∷◌, ◌≡◌, ◌≤◌}
+use Rattle.store.proofs.Members.{fails_each, member_after, member_cases, member_here, none_pass}
+use Rattle.store.specs.auxiliary.Replay.{replayed}
 
 -- a test of a key is passed by that key alone
 pub key_is : (a : List ℕ) (d : ℕ) (x : List ℕ) (n : ℕ) → (bytes_eq x a && (n == d)) ≡ true → (x ≡ a) × (n ≡ d)
 key_is a d x n e =
-    let parts = both_true (bytes_eq x a) (n == d) e in
+    let parts = and_parts (bytes_eq x a) (n == d) e in
     ((bytes_eq-Decides x a).0 parts.0, eqb-true n d parts.1)
 
 pub key_passes : (a : List ℕ) (d : ℕ) (x : List ℕ) (n : ℕ) → x ≡ a → n ≡ d → (bytes_eq x a && (n == d)) ≡ true
@@ -48,19 +39,19 @@ raised_member a d (x ∷ rows) row m =
 raised_key : (a : List ℕ) (d : ℕ) (row : TallyRow)
     → ((raised_row a d row).account ≡ row.account) × ((raised_row a d row).day ≡ row.day)
 raised_key a d row =
-    elim (true_or_false (is_tally_of a d row)) [ inl t ↦ rw t (refl, refl) | inr f ↦ rw f (refl, refl) ]
+    elim (cases_Bool (is_tally_of a d row)) [ inl t ↦ rw t (refl, refl) | inr f ↦ rw f (refl, refl) ]
 
 raised_count : (a : List ℕ) (d : ℕ) (row : TallyRow)
     → (raised_row a d row).count ≡ cond (is_tally_of a d row) 1 0 + row.count
 raised_count a d row =
-    elim (true_or_false (is_tally_of a d row)) [ inl t ↦ rw t (omega arith) | inr f ↦ rw f (omega arith) ]
+    elim (cases_Bool (is_tally_of a d row)) [ inl t ↦ rw t (omega arith) | inr f ↦ rw f (omega arith) ]
 
 -- tests of keys are symmetric
 pub key_swap : (a : List ℕ) (d : ℕ) (x : List ℕ) (n : ℕ) → (bytes_eq x a && (n == d)) ≡ (bytes_eq a x && (d == n))
 key_swap a d x n =
-    elim (true_or_false (bytes_eq x a && (n == d))) [
+    elim (cases_Bool (bytes_eq x a && (n == d))) [
       | inl t ↦ (let k = key_is a d x n t in t ∙ sym (key_passes x n a d (sym k.0) (sym k.1)))
-      | inr f ↦ elim (true_or_false (bytes_eq a x && (d == n))) [
+      | inr f ↦ elim (cases_Bool (bytes_eq a x && (d == n))) [
         | inl t ↦ (let k = key_is x n a d t in let back = key_passes a d x n (sym k.0) (sym k.1) in cc)
         | inr g ↦ f ∙ sym g
       ]
@@ -76,7 +67,7 @@ raised_any a d account day (row ∷ rows) =
 counted_more : (a : List ℕ) (d : ℕ) (count : List ℕ → ℕ → ℕ) (rows : List TallyRow) → AreCounted count rows
     → AreCounted (one_more a d count) (with_one_more a d rows)
 counted_more a d count rows counted =
-    elim (true_or_false (list_any (is_tally_of a d) rows)) [
+    elim (cases_Bool (list_any (is_tally_of a d) rows)) [
       | inl there ↦ rw there (record {
         each = λ row m. each_there row m;
         none = λ account day e. none_there there account day e;
@@ -101,7 +92,7 @@ counted_more a d count rows counted =
           → one_more a d count account day ≡ 0
       none_there there account day e =
           let before : list_any (is_tally_of account day) rows ≡ false = sym (raised_any a d account day rows) ∙ e in
-          elim (true_or_false (bytes_eq a account && (d == day))) [
+          elim (cases_Bool (bytes_eq a account && (d == day))) [
             | inl t ↦ (let k = key_is account day a d t in
                 let same : list_any (is_tally_of a d) rows ≡ list_any (is_tally_of account day) rows =
                 rw (k.0, k.1) refl in cc)
@@ -125,7 +116,7 @@ counted_more a d count rows counted =
           → list_any (is_tally_of account day) (record { account = a; day = d; count = 1 } ∷ rows) ≡ false
           → one_more a d count account day ≡ 0
       none_absent account day e =
-          let parts = neither_true (bytes_eq a account && (d == day)) (list_any (is_tally_of account day) rows) e in
+          let parts = or_parts (bytes_eq a account && (d == day)) (list_any (is_tally_of account day) rows) e in
           rw (parts.0, counted.none account day parts.1) refl
 
 counted_same : (count other : List ℕ → ℕ → ℕ) (rows : List TallyRow) → ((a : List ℕ) (d : ℕ) → count a d ≡ other a d)
@@ -161,7 +152,7 @@ none_late : (b : History) (account : List ℕ) (day : ℕ) → IsSound b → gre
     → count_of_day account day b ≡ 0
 none_late [] account day sound late = refl
 none_late (Reserved r ∷ b) account day sound late =
-    elim (true_or_false (is_of_day account day r)) [
+    elim (cases_Bool (is_of_day account day r)) [
       | inl t ↦ (let k = key_is account day r.account (day_of r.gen_time) t in
           let moment = sound.0.moment in
           let day_is : r.gen_time / 86_400_000_000 ≡ day = k.1 in

@@ -1,18 +1,14 @@
 -- Why an opening finds no database.
-use Rattle.std.proofs.Common.{◌≡◌, ◌⊎◌, Option, None, Some, IfSome, refl, sym, ◌∙◌, subst, inl, inr}
-use Rattle.sqlite_disk.specs.declared.Disk.{Ghosts}
-use Rattle.sqlite_disk.specs.declared.Files.{Files}
-use Rattle.sqlite_trees.specs.Tree.{Trees}
 use Rattle.sqlite_trees.specs.declared.error.StoreError.{StoreError}
-use Rattle.sqlite_trees.specs.declared.error.StoreError.TheVariants.{OutOfMemory, Io, Corrupt, Full, Broken, Unstorable}
-use Rattle.sqlite_wal.specs.Recovery.{Image}
-use Rattle.sqlite.specs.declared.error.Error.{Error}
+use Rattle.sqlite_trees.specs.declared.error.StoreError.TheVariants.{Broken, Corrupt, Full, Io, OutOfMemory, Unstorable}
 use Rattle.sqlite.specs.declared.error.Error.TheVariants.{SqliteFailure}
-use Rattle.sqlite.specs.declared.error.ErrorCode.TheVariants as code
 use Rattle.sqlite.specs.declared.file.Leftover.{Leftover}
-use Rattle.sqlite.specs.Files.{image_of, IsCleanLeft, FailsToOpenFiles, LeavesFiles, HoldsDatabase, IsNothing}
-use Rattle.sqlite.specs.State.{store_error}
+use Rattle.sqlite_disk.specs.declared.Disk.{Ghosts}
+use Rattle.store.proofs.Words.{Error, FailsToOpenFiles, Files, HoldsDatabase, IfSome, Image, IsCleanLeft, IsNothing}
+use Rattle.store.proofs.Words.{LeavesFiles, None, Option, Some, Trees, image_of, inl, inr, refl, store_error, subst}
+use Rattle.store.proofs.Words.{sym, ◌∙◌, ◌≡◌, ◌⊎◌}
 use Rattle.store.specs.Files.{FailsToOpen, OpensNothing}
+use Rattle.sqlite.specs.declared.error.ErrorCode.TheVariants as code
 
 no_fault : (cause : StoreError) → ¬ (SqliteFailure code.NotADatabase ≡ store_error cause)
 no_fault OutOfMemory e = cc

@@ -1,22 +1,14 @@
 -- The walk of a list, one visible deposit after the other.
-use Rattle.std.proofs.Common.{◌≡◌, ℕ, ◌<◌, List, [], ◌++◌, length, replicate, get_or, Option, Some, None}
-use Rattle.std.proofs.Common.{option_map, unwrap_or, arith}
-use Rattle.std.proofs.Common.{option_to_list, refl, sym, ap, ◌∙◌}
-use Rattle.std.proofs.lemmas.List.{length-replicate, get_or-replicate}
-use Rattle.sqlite_trees.specs.declared.store.Store.{Ghosts}
-use Rattle.tables.specs.Base.{BaseValue, IsHonest, IsOpen}
-use Rattle.book.specs.History.{History}
-use Rattle.book.specs.Readers.{Reader, Account, Group, Viewer}
-use Rattle.book.specs.Rights.{ListedValue, listed}
-use Rattle.book.specs.Stands.{Stands, OnlyLooks}
-use Rattle.store.specs.Stands.{over_tables}
-use Rattle.store.specs.Steps.{IsNextSeen, IsCursor, AreCursors, AreNextReadable, listing_at}
-use Rattle.store.specs.Steps.{AreOwned}
-use Rattle.store.specs.declared.labels.Owned.{Owned}
-use Rattle.store.specs.declared.cursors.Cursors.{Cursors}
-use Rattle.book.specs.Values.{listed_view}
 use Rattle.book.specs.declared.values.Listed.{Listed}
-use Rattle.store.proofs.Lists.{listed_up_to, next_listed, all_listed, still_cursors}
+use Rattle.store.proofs.Words.{Account, BaseValue, Ghosts, Group, History, IsHonest, IsOpen, List, ListedValue, None}
+use Rattle.store.proofs.Words.{OnlyLooks, Option, Reader, Some, Stands, Viewer, [], ap, arith, get_or, get_or-replicate}
+use Rattle.store.proofs.Words.{length, length-replicate, listed, listed_view, option_map, option_to_list, refl}
+use Rattle.store.proofs.Words.{replicate, sym, unwrap_or, ℕ, ◌++◌, ◌<◌, ◌∙◌, ◌≡◌}
+use Rattle.store.proofs.Lists.{all_listed, listed_up_to, next_listed, still_cursors}
+use Rattle.store.specs.Stands.{over_tables}
+use Rattle.store.specs.auxiliary.Steps.{AreCursors, AreNextReadable, AreOwned, IsCursor, IsNextSeen, listing_at}
+use Rattle.store.specs.declared.cursors.Cursors.{Cursors}
+use Rattle.store.specs.declared.labels.Owned.{Owned}
 
 pub looks_after : {S : Type 0} (g : Ghosts S) (old mid new : BaseValue S) → OnlyLooks (over_tables g) old mid
     → OnlyLooks (over_tables g) mid new

@@ -66,7 +66,8 @@ LeavesOrMakes entries old new =
 abbrev pub LeavesOrMigrates : State → State → Type 0
 LeavesOrMigrates old new =
     HasCleanDisk new → (db : Trees) → new.may_leave db
-    → old.may_leave db ⊎ ((v : Version) (b : History) → IsFoundIn (number_of v) (tables_of b) old → IsStored (tables_of b) db)
+    → old.may_leave db
+    ⊎ ((v : Version) (b : History) → IsFoundIn (number_of v) (tables_of b) old → IsStored (tables_of b) db)
 
 -- a connection was opened over what the files held, and the store stands for each sound history whose tables it found
 -- there
@@ -99,8 +100,8 @@ told_opening error = opening_fault_of (told error Open)
 abbrev pub told_closing : Error → StoreFault
 told_closing error = fault_of (told_using error)
 
--- A connection to files was closed so. What it committed is in the database file, as that reads now and after any crash;
--- or that was refused, by the database's error, and a crash finds nothing that it wouldn't have found before.
+-- A connection to files was closed so. What it committed is in the database file, as that reads now and after any
+-- crash; or that was refused, by the database's error, and a crash finds nothing that it wouldn't have found before.
 abbrev pub HasClosed : {D : Type 0} {g : Ghosts D} → Held (FileStore D g) → Result (Files D) StoreFault → Type 0
 HasClosed {g = g} was (Ok files) = AreClean g files.log files.db → IsCopied was files
 HasClosed {D} {g} was (Err fault) = (error : Error) × (fault ≡ told_closing error)
@@ -143,8 +144,8 @@ abbrev pub OpensNothing : {D : Type 0} → Ghosts D → Image → Type 0
 OpensNothing {D} g held =
     (left : Leftover D g) × (IsCleanLeft left → ¬ (((db : Trees) × HoldsDatabase held db) ⊎ IsNothing held))
 
--- Files that held this weren't opened, by that error, once those at the path were: for memory or a limit, for a fault of
--- the disk, or for what they held.
+-- Files that held this weren't opened, by that error, once those at the path were: for memory or a limit, for a fault
+-- of the disk, or for what they held.
 abbrev pub FailsToOpen : {D : Type 0} → Ghosts D → Image → Error → Type 0
 FailsToOpen {D} g held error =
     (left : Option (Leftover D g))

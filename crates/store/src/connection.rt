@@ -13,7 +13,8 @@ ghost use Rattle.tables.specs.Schema.{no_schema};
 ghost use Rattle.book.specs.Entries.{entries_view, with_all, FitInTurn};
 ghost use Rattle.book.specs.Fault.{IsOfStorage, IsOfStorageOr};
 ghost use Rattle.book.specs.History.{History};
-ghost use Rattle.store.specs.Files.{HasClosed, LeavesFiles, LeavesAsItWas, LeavesOrMakes, LeavesOrMigrates, told_closing};
+ghost use Rattle.store.specs.Files.{HasClosed, LeavesFiles, LeavesAsItWas, LeavesOrMakes, LeavesOrMigrates};
+ghost use Rattle.store.specs.Files.{told_closing};
 ghost use Rattle.book.specs.Sound.{IsSound};
 ghost use Rattle.store.specs.Stands.{Stands};
 ghost use Rattle.store.specs.TablesOf.{tables_of};
@@ -118,8 +119,8 @@ impl<S: Alter + Drop> Store<S> {
 }
 
 impl<S: Alter + Drop> Store<S> {
-    /// Takes tables of an earlier version to those of now, in one commit, and keeps each row; tables of now stay as they
-    /// are. The caller's condition is a connection outside any transaction. Refused with `Memory`, `Database`, or
+    /// Takes tables of an earlier version to those of now, in one commit, and keeps each row; tables of now stay as
+    /// they are. The caller's condition is a connection outside any transaction. Refused with `Memory`, `Database`, or
     /// `NotOurs` where the tables are of no version of the counter's; what is seen is as it was then.
     pub fn migrate(conn: &mut Connection<S>) -> Result<(), StoreFault>
         requires { conn.old.in_transaction ≡ false }

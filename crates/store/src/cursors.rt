@@ -9,8 +9,8 @@ ghost use Rattle.book.specs.Entries.{reader_view};
 ghost use Rattle.book.specs.Values.{viewer_of};
 ghost use Rattle.book.specs.Stands.{Stands, OnlyLooks};
 ghost use Rattle.store.specs.Stands.{over_tables};
-ghost use Rattle.store.specs.Steps.{IsNextSeen, IsNextReadable, IsCursor, AreCursors, AreNextReadable, AreOwned};
-ghost use Rattle.store.specs.Steps.{least_of, least_in, later_of};
+ghost use Rattle.store.specs.auxiliary.Steps.{IsNextSeen, IsNextReadable, IsCursor, AreCursors, AreNextReadable};
+ghost use Rattle.store.specs.auxiliary.Steps.{AreOwned, least_of, least_in, later_of};
 
 use crate::labels::Owned;
 use crate::store::Store;

@@ -9,7 +9,7 @@ ghost use Rattle.book.specs.Rights.{is_reader, may_read};
 ghost use Rattle.book.specs.Values.{listed_view, viewer_of};
 ghost use Rattle.book.specs.Stands.{Stands, OnlyLooks};
 ghost use Rattle.store.specs.Stands.{over_tables};
-ghost use Rattle.store.specs.Steps.{listing_at, AreOwned};
+ghost use Rattle.store.specs.auxiliary.Steps.{listing_at, AreOwned};
 
 use crate::labels::Owned;
 use crate::store::Store;

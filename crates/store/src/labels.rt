@@ -9,8 +9,8 @@ ghost use Rattle.book.specs.History.{History};
 ghost use Rattle.book.specs.Fault.{CountsFaults, IsOfStorage};
 ghost use Rattle.book.specs.Stands.{Stands, OnlyLooks};
 ghost use Rattle.store.specs.Stands.{over_tables};
-ghost use Rattle.store.specs.Replay.{replayed};
-ghost use Rattle.store.specs.Steps.{AreLabels, AreOwned};
+ghost use Rattle.store.specs.auxiliary.Replay.{replayed};
+ghost use Rattle.store.specs.auxiliary.Steps.{AreLabels, AreOwned};
 
 use crate::store::Store;
 use book::StoreFault;

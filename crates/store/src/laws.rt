@@ -56,8 +56,8 @@ pub fn book_stands_in_tables<S: Alter + Drop>()
 
 /// What the files hold, an opening finds: the store stands for each sound history whose tables they hold, whatever left
 /// these there. A stop between calls leaves those of the history for which the store stood; one in a call of entries
-/// (`crash`), in the making of tables or in a migration may leave those that its clause names; and a closing those of what
-/// was closed.
+/// (`crash`), in the making of tables or in a migration may leave those that its clause names; and a closing those of
+/// what was closed.
 pub fn openings_find_what_was_left<D: Disk + Drop>()
     ensures { FindsWhatIsHeld D.Disk }
 {

@@ -76,7 +76,8 @@ impl<T: Start + Drop> Store<FileStore<FileFrom<T>>> {
 
     /// Makes the tables in a new database at a path, and adds entries, the first of them first, all in one commit: the
     /// store stands for the history of these entries. The caller's condition is that each fits the history of those
-    /// before it. Refused as `make` is: a refusal, and a stop at any moment, leaves no tables or all with these entries.
+    /// before it. Refused as `make` is: a refusal, and a stop at any moment, leaves no tables or all with these
+    /// entries.
     pub fn make_with<P: Paths>(
         paths: &P,
         path: &str,
@@ -253,7 +254,8 @@ fn connect<T: Start + Drop>(
         → FindsIn (image_at T.Start) (file_state conn)) }
     ensures plain { IfOk result (λ conn. HasCleanDisk (file_state conn) → IsBlankAs false (image_at T.Start)
         → (view conn.store).has_sums ≡ false) }
-    ensures none { IfErr result (λ e. e ≡ StoreFault.NotOurs → OpensNothing ⟦<FileFrom<T> as Disk>⟧ (image_at T.Start)) }
+    ensures none { IfErr result (λ e. e ≡ StoreFault.NotOurs
+        → OpensNothing ⟦<FileFrom<T> as Disk>⟧ (image_at T.Start)) }
     ensures told { IfErr result (λ e. (error : SpecError) × (e ≡ told_opening error)
         × FailsToOpen ⟦<FileFrom<T> as Disk>⟧ (image_at T.Start) error) }
     ensures refusals { IfErr result (IsOfStorageOr StoreFault.NotOurs) }
@@ -299,7 +301,8 @@ fn store_or_drop<S: Alter + Drop>(
         → IsFound (tables_of b) (state S.Store conn) → Stands S.Store b store) }
     ensures ours { course ≡ Course.Adopt → IfOk result (λ store. HasCleanDisk (state S.Store store.conn)
         → LooksOurs (state S.Store conn)) }
-    ensures looks { course ≡ Course.Adopt → IfOk result (λ store. Looks (state S.Store conn) (state S.Store store.conn)) }
+    ensures looks { course ≡ Course.Adopt
+        → IfOk result (λ store. Looks (state S.Store conn) (state S.Store store.conn)) }
     ensures foreign { course ≡ Course.Adopt → IfErr result (λ e. e ≡ StoreFault.NotOurs → SeemsForeign S.Store conn) }
     ensures made { course ≡ Course.Create → IfOk result (λ store. FitInTurn (entries_view entries.now) []
         → Stands S.Store (with_all (entries_view entries.now) []) store) }

@@ -1,7 +1,7 @@
 //! The stamps of a range, one after the other.
 ghost use Rattle.std.specs.Prelude.{◌≡◌, IfSome};
 ghost use Rattle.book.specs.Ranges.{IsWithin};
-ghost use Rattle.store.specs.Steps.{only_within};
+ghost use Rattle.store.specs.auxiliary.Steps.{only_within};
 
 use crate::store::Store;
 use book::{Stamp, StampsBetween};

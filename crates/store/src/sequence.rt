@@ -9,7 +9,7 @@ ghost use Rattle.book.specs.Rows.{InstalledRow};
 ghost use Rattle.book.specs.Sound.{IsSound};
 ghost use Rattle.book.specs.Stands.{Stands, OnlyLooks};
 ghost use Rattle.book.specs.Values.{calibration_view, hold_view, identity_view};
-ghost use Rattle.store.specs.Replay.{replayed};
+ghost use Rattle.store.specs.auxiliary.Replay.{replayed};
 ghost use Rattle.store.specs.Stands.{over_tables};
 
 use crate::store::{Store, calibration_from};

@@ -3,7 +3,7 @@ ghost use Rattle.std.specs.Prelude.{◌≡◌, false, option_map};
 ghost use Rattle.sqlite_trees.specs.Tree.{Trees};
 ghost use Rattle.tables.specs.Base.{IsHonest, IsOpen, Keeps, Recovers, IsStored};
 ghost use Rattle.book.specs.Values.{calibration_option};
-ghost use Rattle.store.specs.Steps.{last_from, calibration_from, count_of};
+ghost use Rattle.store.specs.auxiliary.Steps.{last_from, calibration_from, count_of};
 ghost use Rattle.store.specs.TablesOf.{tables_of};
 
 use crate::cursors::Cursors;

@@ -1,8 +1,6 @@
 -- What is said of an answer, where there is a refusal: nothing.
-use Rattle.std.proofs.Common.{Result, Ok, Err, IsErr, IfOk, OnOk, refl, inl, arith}
-use Rattle.sqlite.specs.declared.error.Error.{Error}
-use Rattle.sqlite_trees.specs.Tree.{Trees}
-use Rattle.sqlite.specs.State.{State, Survives, KeepsCommit}
+use Rattle.tables.proofs.Words.{Err, Error, IfOk, IsErr, KeepsCommit, Ok, OnOk, Result, State, Survives, Trees, arith}
+use Rattle.tables.proofs.Words.{inl, refl}
 use Rattle.tables.specs.Tables.{Tables}
 use Rattle.tables.specs.Transaction.{Carries}
 

@@ -1,34 +1,20 @@
 -- A query in a transaction, which goes on or is undone.
-use Rattle.std.proofs.Common.{◌≡◌, ◌⊎◌, ℕ, List, None, Some, true, Result, Ok, Err, IfOk, IfErr, OnOk}
-use Rattle.std.proofs.Common.{IsTrue, refl, sym, ap, ◌∙◌, subst, inl, inr, arith, append-nil, ◌≢◌, ◌≤◌}
-use Rattle.std.specs.Prelude.{Option, IsSome}
-use Rattle.sqlite_value.specs.Order.{Row}
-use Rattle.sqlite_trees.specs.declared.store.Store.{Ghosts}
-use Rattle.sqlite.specs.declared.error.Error.{Error}
-use Rattle.sqlite.specs.Effect.{IsDatabase, Reads, RefusesToRead}
-use Rattle.sqlite_schema.specs.declared.command.Returning.{Returning}
-use Rattle.sqlite_resolve.specs.declared.compiled.Compiled.{Compiled}
-use Rattle.sqlite.specs.Held.{Held, state}
-use Rattle.sqlite.specs.Listing.{understood}
-use Rattle.sqlite.specs.State.{State, HasCleanDisk, Survives, IsRolledBack, IsUnchanged, KeepsCommit, IsNotRun}
-use Rattle.sqlite.specs.State.{Fails, FailsToQuery, FailsToShow, IsTooLate, Shown, ShowsRows}
-use Rattle.sqlite.specs.declared.error.Error.TheVariants.{SqliteFailure}
+use Rattle.std.specs.Prelude.{Option}
+use Rattle.tables.proofs.Words.{Compiled, Err, Error, Fails, FailsToQuery, FailsToShow, Ghosts, HasCleanDisk, Held}
+use Rattle.tables.proofs.Words.{IfErr, IfOk, IsDatabase, IsNotRun, IsPlain, IsRolledBack, IsSome, IsTooLate, IsTrue}
+use Rattle.tables.proofs.Words.{KeepsCommit, List, None, Ok, OnOk, Reads, RefusesToRead, Result, Returning, Row, Shown}
+use Rattle.tables.proofs.Words.{ShowsRows, Some, SqliteFailure, State, Survives, ap, append-nil, arith, command_of, inl}
+use Rattle.tables.proofs.Words.{inr, reads_as, refl, state, subst, sym, true, understood, ℕ, ◌∙◌, ◌≡◌, ◌≢◌, ◌≤◌, ◌⊎◌}
+use Rattle.tables.specs.Layout.{IsDatabaseOf}
+use Rattle.tables.specs.QueryAnswers.{Answers, AsksInside, IsPlainIn, IsQueryText, Looks, StaysUsable, TellsRows}
+use Rattle.tables.specs.Schema.{the_schema}
+use Rattle.tables.specs.Tables.{Tables}
+use Rattle.tables.specs.Transaction.{Carries, Goes, IsSoundOf}
+use Rattle.tables.specs.Versions.{HasFailed, IsRefused, IsUnanswered, IsUnderstood}
+use Rattle.tables.proofs.CarryLemmas.{keeps_unchanged, keeps_undone}
+use Rattle.tables.proofs.UsableLemmas.{survivor_usable, usable_in_turn}
 use Rattle.sqlite.specs.declared.error.ErrorCode.TheVariants as code
 use Rattle.sqlite_trees.specs.declared.error.StoreError.TheVariants as stored
-use Rattle.tables.specs.Versions.{HasFailed, IsRefused, IsUnanswered, IsUnderstood}
-use Rattle.sqlite.proofs.Callers.{IsPlain, reads_as, command_of}
-use Rattle.tables.specs.Transaction.{Goes, Carries, IsSoundOf}
-use Rattle.tables.specs.Layout.{IsDatabaseOf}
-use Rattle.tables.specs.Tables.{Tables}
-use Rattle.tables.specs.Schema.{the_schema}
-use Rattle.tables.specs.QueryAnswers.{IsQueryText, IsPlainIn, Answers, TellsRows, Looks, StaysUsable}
-use Rattle.tables.proofs.UsableLemmas.{survivor_usable, usable_in_turn}
-
-unchanged_keeps : (old new : State) → IsUnchanged old new → KeepsCommit old new
-unchanged_keeps old new u = record { was_open = λ o. u.0.was_open; committed = λ o. u.0.committed_is }
-
-rolled_keeps : (old new : State) → IsRolledBack old new → KeepsCommit old new
-rolled_keeps old new r = record { was_open = r.was_open; committed = λ o. (r.undone o).1 }
 
 -- a store that fails for another cause than memory was shut, or its disk failed or refused
 pub fails_so : (old new : State) (e : Error) → e ≢ SqliteFailure code.OutOfMemory → Fails old new ⊥ e
@@ -49,7 +35,7 @@ module _ (sql : List ℕ) (params : Row) (old new : State) where
   shows_keeps : (c : Compiled) (given : Row) (rows : List Row) (returning : Option Returning)
       → old.in_transaction ≡ true → ShowsRows old new sql c given rows returning
       → KeepsCommit old new
-  shows_keeps c given rows None inside h = unchanged_keeps old new h.3
+  shows_keeps c given rows None inside h = keeps_unchanged old new h.3
   shows_keeps c given rows (Some what) inside h =
       let is = h.1.shown.committed_is in
       record { was_open = λ _. h.1.shown.was_open; committed = λ _. rw inside at is }
@@ -66,9 +52,9 @@ module _ (sql : List ℕ) (params : Row) (old new : State) where
 
   fails_shows : (c : Compiled) (given : Row) (e : Error) (returning : Option Returning)
       → FailsToShow old new sql c given e returning → KeepsCommit old new
-  fails_shows c given e None h = unchanged_keeps old new h.3
-  fails_shows c given e (Some what) (inl h) = unchanged_keeps old new h.1
-  fails_shows c given e (Some what) (inr fails) = rolled_keeps old new fails.3
+  fails_shows c given e None h = keeps_unchanged old new h.3
+  fails_shows c given e (Some what) (inl h) = keeps_unchanged old new h.1
+  fails_shows c given e (Some what) (inr fails) = keeps_undone old new fails.3
 
   pub shown_keeps : (rows : List Row) → old.in_transaction ≡ true → Shown sql params old new rows → KeepsCommit old new
   unfolding Shown
@@ -92,12 +78,12 @@ module _ (sql : List ℕ) (params : Row) (old new : State) where
 
   pub fails_keeps : (e : Error) → FailsToQuery sql params old new e → KeepsCommit old new
   unfolding FailsToQuery IsNotRun
-  fails_keeps e (inl (inl none)) = unchanged_keeps old new none.1
-  fails_keeps e (inl (inr fails)) = rolled_keeps old new fails.3
+  fails_keeps e (inl (inl none)) = keeps_unchanged old new none.1
+  fails_keeps e (inl (inr fails)) = keeps_undone old new fails.3
   fails_keeps e (inr h) = fails_shows h.0 _ e h.0.returning h.2
 
   pub late_keeps : (e : Error) → IsTooLate sql params old new e → KeepsCommit old new
-  late_keeps e h = unchanged_keeps old new h.5
+  late_keeps e h = keeps_unchanged old new h.5
 
   pub shown_tells : IsQueryText sql → old.now.schema ≡ the_schema → (rows : List Row) → Shown sql params old new rows
       → TellsRows sql params old.now.trees rows
@@ -146,42 +132,52 @@ module _ (sql : List ℕ) (params : Row) (old new : State) where
 module _ {R : Type 0} (items : R → List Row) (sql : List ℕ) (params : Row) (old new : State) (result : Result R Error)
     (ok : HasCleanDisk new → IfOk result (λ rows. Shown sql params old new (items rows)))
     (err : HasCleanDisk new → IfErr result (λ e. FailsToQuery sql params old new e ⊎ IsTooLate sql params old new e)) where
-  module _ (text : IsQueryText sql) where
-    keeps : (r : Result R Error) → old.in_transaction ≡ true → IfOk r (λ rows. Shown sql params old new (items rows))
-        → IfErr r (λ e. FailsToQuery sql params old new e ⊎ IsTooLate sql params old new e) → KeepsCommit old new
-    keeps (Ok rows) inside ok err = shown_keeps sql params old new (items rows) inside ok
-    keeps (Err e) inside ok (inl fails) = fails_keeps sql params old new e fails
-    keeps (Err e) inside ok (inr late) = late_keeps sql params old new e late
+  keeps : (r : Result R Error) → old.in_transaction ≡ true → IfOk r (λ rows. Shown sql params old new (items rows))
+      → IfErr r (λ e. FailsToQuery sql params old new e ⊎ IsTooLate sql params old new e) → KeepsCommit old new
+  keeps (Ok rows) inside ok err = shown_keeps sql params old new (items rows) inside ok
+  keeps (Err e) inside ok (inl fails) = fails_keeps sql params old new e fails
+  keeps (Err e) inside ok (inr late) = late_keeps sql params old new e late
 
-    went : (r : Result R Error) → old.in_transaction ≡ true → IfOk r (λ rows. Shown sql params old new (items rows))
-        → OnOk r (Goes (λ t. t) old new)
-    went (Err e) inside ok = tt
-    went (Ok rows) inside shown =
-        let same = λ (t : Tables) (d : IsSoundOf t old.now).
-        shown_same sql params old new text d.database.schema (items rows) shown in
-        record {
-          was_open = λ _. shown_opens sql params old new (items rows) shown;
-          inside = shown_inside sql params old new (items rows) shown ∙ inside;
-          goes = λ t d. subst (IsDatabaseOf t) (sym (same t d)) d.database;
-          sound = λ t d. subst IsDatabase (sym (same t d)) d.sound;
-        }
+  opens : (r : Result R Error) → IfOk r (λ rows. Shown sql params old new (items rows)) → OnOk r (IsTrue old.is_open)
+  opens (Ok rows) ok = shown_opens sql params old new (items rows) ok
+  opens (Err e) ok = tt
 
-    pub asked_carries : Survives old new (λ _. ⊥) → Carries (λ t. t) old new result
-    asked_carries survives = record {
-      survives = survives;
-      kept = λ clean inside. keeps result inside (ok clean) (err clean);
-      ok = λ clean inside. went result inside (ok clean);
-    }
+  pub asked_inside : Survives old new (λ _. ⊥) → AsksInside old new result
+  asked_inside survives = record {
+    survives = survives;
+    kept = λ clean inside. keeps result inside (ok clean) (err clean);
+    opened = λ clean inside. opens result (ok clean);
+  }
 
-    tells : (r : Result R Error) → old.now.schema ≡ the_schema
-        → IfOk r (λ rows. Shown sql params old new (items rows))
-        → IfOk r (λ rows. TellsRows sql params old.now.trees (items rows))
-    tells (Ok rows) has ok = shown_tells sql params old new text has (items rows) ok
-    tells (Err e) has ok = tt
+  went : IsQueryText sql → (r : Result R Error) → old.in_transaction ≡ true
+      → IfOk r (λ rows. Shown sql params old new (items rows)) → OnOk r (Goes (λ t. t) old new)
+  went text (Err e) inside ok = tt
+  went text (Ok rows) inside shown =
+      let same = λ (t : Tables) (d : IsSoundOf t old.now).
+      shown_same sql params old new text d.database.schema (items rows) shown in
+      record {
+        was_open = λ _. shown_opens sql params old new (items rows) shown;
+        inside = shown_inside sql params old new (items rows) shown ∙ inside;
+        goes = λ t d. subst (IsDatabaseOf t) (sym (same t d)) d.database;
+        sound = λ t d. subst IsDatabase (sym (same t d)) d.sound;
+      }
 
-    pub asked_told : HasCleanDisk new → old.now.schema ≡ the_schema
-        → IfOk result (λ rows. TellsRows sql params old.now.trees (items rows))
-    asked_told clean has = tells result has (ok clean)
+  pub asked_carries : Survives old new (λ _. ⊥) → IsQueryText sql → Carries (λ t. t) old new result
+  asked_carries survives text = record {
+    survives = survives;
+    kept = λ clean inside. keeps result inside (ok clean) (err clean);
+    ok = λ clean inside. went text result inside (ok clean);
+  }
+
+  tells : IsQueryText sql → (r : Result R Error) → old.now.schema ≡ the_schema
+      → IfOk r (λ rows. Shown sql params old new (items rows))
+      → IfOk r (λ rows. TellsRows sql params old.now.trees (items rows))
+  tells text (Ok rows) has ok = shown_tells sql params old new text has (items rows) ok
+  tells text (Err e) has ok = tt
+
+  pub asked_told : IsQueryText sql → HasCleanDisk new → old.now.schema ≡ the_schema
+      → IfOk result (λ rows. TellsRows sql params old.now.trees (items rows))
+  asked_told text clean has = tells text result has (ok clean)
 
   answers : (r : Result R Error) → IsPlainIn old.now.schema sql
       → IfOk r (λ rows. Shown sql params old new (items rows))
@@ -206,7 +202,7 @@ module _ {R : Type 0} (items : R → List Row) (sql : List ℕ) (params : Row) (
 
 -- one that is undone
 module _ {S R : Type 0} (g : Ghosts S) (old mid last : Held S) (sql : List ℕ) (params : Row) (result : Result R Error)
-    (first : Carries (λ t. t) (state g (record old { in_transaction = true })) (state g mid) result)
+    (first : AsksInside (state g (record old { in_transaction = true })) (state g mid) result)
     (then : Survives (state g mid) (state g last) (λ _. ⊥))
     (undone : HasCleanDisk (state g last) → IsRolledBack (state g mid) (state g last)) where
   middle : HasCleanDisk (state g last) → HasCleanDisk (state g mid)
@@ -235,14 +231,8 @@ module _ {S R : Type 0} (g : Ghosts S) (old mid last : Held S) (sql : List ℕ) 
     usable = record { counts = usable.counts; stays = usable.stays; limit = usable.limit };
   }
 
-  opens : (r : Result R Error)
-      → OnOk r (Goes (λ t. t) (state g (record old { in_transaction = true })) (state g mid))
-      → OnOk r (IsTrue (state g old).is_open)
-  opens (Ok rows) ok = ok.was_open tt
-  opens (Err e) ok = tt
-
   pub was_opened : HasCleanDisk (state g last) → OnOk result (IsTrue (state g old).is_open)
-  was_opened clean = opens result (first.ok (middle clean) refl)
+  was_opened clean = first.opened (middle clean) refl
 
   later : IsUnanswered sql params (state g old) (state g mid) → IsUnanswered sql params (state g old) (state g last)
   later (inl failed) = inl (failed_later (state g old) (state g mid) (state g last) then.counts failed)

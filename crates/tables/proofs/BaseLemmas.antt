@@ -1,22 +1,16 @@
 -- What a commit makes of a connection that keeps tables.
-use Rattle.std.proofs.Common.{◌≡◌, ◌⊎◌, false, Result, Ok, Err, OnOk, OnErr, IsTrue, sym, ap, ◌∙◌, subst, List}
-use Rattle.std.proofs.Common.{inl, inr}
-use Rattle.sqlite_trees.specs.Tree.{Trees}
-use Rattle.sqlite_trees.specs.declared.store.Store.{Ghosts}
-use Rattle.sqlite.specs.declared.error.Error.{Error}
-use Rattle.sqlite.specs.Effect.{Database, IsDatabase}
-use Rattle.sqlite.specs.State.{HasCleanDisk}
-use Rattle.sqlite.specs.Held.{Held, state}
 use Rattle.book.specs.History.{Entry}
-use Rattle.tables.specs.QueryAnswers.{Looks}
+use Rattle.tables.proofs.Words.{Database, Err, Error, Ghosts, HasCleanDisk, Held, IsDatabase, IsTrue, List, Ok, OnErr}
+use Rattle.tables.proofs.Words.{OnOk, Result, Trees, ap, false, inl, inr, state, subst, sym, ◌∙◌, ◌≡◌, ◌⊎◌}
+use Rattle.tables.specs.Base.{StandsFor}
 use Rattle.tables.specs.Changes.{applied_all}
-use Rattle.tables.specs.Versions.{IsFound, Creates}
+use Rattle.tables.specs.Layout.{IsDatabaseOf, IsStored}
+use Rattle.tables.specs.QueryAnswers.{Looks}
 use Rattle.tables.specs.Schema.{no_schema}
 use Rattle.tables.specs.Tables.{Tables, no_rows}
-use Rattle.tables.specs.Base.{StandsFor}
-use Rattle.tables.specs.Layout.{IsStored, IsDatabaseOf}
-use Rattle.tables.proofs.CommitLemmas.{stored}
 use Rattle.tables.specs.Transaction.{Commits}
+use Rattle.tables.specs.Versions.{Creates, IsFound}
+use Rattle.tables.proofs.CommitLemmas.{stored}
 
 -- a crash leaves the last commit of an open store
 abbrev pub IsSettled : {S : Type 0} → Ghosts S → Type 0

@@ -1,13 +1,11 @@
 -- What a query makes of a connection that keeps tables, and what a look-up tells by it.
-use Rattle.std.proofs.Common.{◌≡◌, false, Result, Ok, Err, IsErrAnd, IfOk, refl, sym, subst, inl, arith}
-use Rattle.sqlite_trees.specs.declared.store.Store.{Ghosts}
-use Rattle.sqlite.specs.Effect.{IsDatabase}
-use Rattle.sqlite.specs.Held.{state}
-use Rattle.tables.specs.QueryAnswers.{Looks}
+use Rattle.tables.proofs.Words.{Err, Ghosts, IfOk, IsDatabase, IsErrAnd, Ok, Result, arith, false, inl, refl, state}
+use Rattle.tables.proofs.Words.{subst, sym, ◌≡◌}
 use Rattle.tables.specs.Base.{BaseValue}
 use Rattle.tables.specs.Changes.{IsCounted}
 use Rattle.tables.specs.Layout.{IsDatabaseOf}
-use Rattle.tables.specs.Queries.{OnlyReads, LooksUp}
+use Rattle.tables.specs.Queries.{LooksUp, OnlyReads}
+use Rattle.tables.specs.QueryAnswers.{Looks}
 use Rattle.tables.specs.Tables.{Tables}
 use Rattle.tables.specs.declared.fault.TableFault.{TableFault}
 use Rattle.tables.proofs.UsableLemmas.{usable_in_turn}

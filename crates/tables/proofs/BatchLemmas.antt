@@ -1,19 +1,10 @@
 -- A batch of texts that make tables, with one more text at its end, in turn.
-use Rattle.std.proofs.Common.{◌≡◌, ◌⊎◌, ℕ, zero, suc, true, List, [], ◌∷◌, take, drop, None, Some}
-use Rattle.std.proofs.Common.{Result, Ok, Err, sym, ap, ◌∙◌, subst, subst₂, inl, inr}
-use Rattle.std.specs.List.{list_any}
-use Rattle.std.proofs.lemmas.Bool.{cases_Bool}
-use Rattle.sqlite_trees.specs.declared.store.Store.{Ghosts}
-use Rattle.sqlite_schema.specs.declared.schema.Schema.{Schema}
-use Rattle.sqlite_schema.specs.declared.command.Command.{Command}
-use Rattle.sqlite.specs.declared.error.Error.{Error}
-use Rattle.sqlite.specs.Batch.{Stops, RunInTurn, first_len}
-use Rattle.sqlite.specs.Clock.{timed}
-use Rattle.sqlite.specs.Held.{Held, state}
-use Rattle.sqlite.specs.Listing.{understood}
-use Rattle.sqlite.specs.State.{State, Runs, ExecutesIn, text_of, shows_rows}
-use Rattle.sqlite.proofs.Callers.{IsPlain, command_of, statement_of}
-use Rattle.tables.specs.Creation.{Making, joined}
+use Rattle.tables.proofs.Words.{Command, Err, Error, ExecutesIn, Ghosts, Held, IsPlain, List, None, Ok, Result}
+use Rattle.tables.proofs.Words.{RunInTurn, Runs, Schema, Some, State, Stops, [], ap, cases_Bool, command_of, drop}
+use Rattle.tables.proofs.Words.{everything, first_len, inl, inr, list_any, refl, shows_rows, state, statement_of, subst}
+use Rattle.tables.proofs.Words.{subst₂, suc, sym, take, text_of, timed, true, understood, zero, ℕ, ◌∙◌, ◌∷◌, ◌≡◌, ◌⊎◌}
+use Rattle.tables.specs.Names.{Name, names}
+use Rattle.tables.specs.auxiliary.Creation.{insert_version, joined, text_for}
 
 -- as `runs_as` of `sqlite`, in a batch
 module _ (sql : List ℕ) (old new : State) (schema : Schema) (has : old.now.schema ≡ schema) (command : Command)
@@ -32,30 +23,42 @@ module _ (sql : List ℕ) (old new : State) (schema : Schema) (has : old.now.sch
       subst₂ (λ k t. Runs old new None k t [] count) (ap command_of known ∙ is) (ap (statement_of sql) known)
       (rw (bare.0, bare.1) at ran)
 
-pub went : {B E R : Type 0} {b : B} {Stops : E → Type 0} → ((stop : E) × Stops stop × (Ok b ≡ Err stop)) ⊎ R → R
-went (inl stopped) = absurd (let e = stopped.2 in cc)
-went (inr on) = on
-
 on : {B E R : Type 0} {b : B} {Stops : E → Type 0}
     → ((stop : E) × (◌≡◌ {A = Result B E} (Ok b) (Err stop)) × Stops stop) ⊎ R → R
 on (inl stopped) = absurd (let e = stopped.1 in cc)
 on (inr rest) = rest
-
-pub same_ok : {B E : Type 0} {a b : B} → ◌≡◌ {A = Result B E} (Ok a) (Ok b) → a ≡ b
-same_ok e = cc
 
 -- the first statement of a text, and the others
 abbrev pub IsCut : List ℕ → List ℕ → List ℕ → Type 0
 IsCut text piece rest =
     (take (first_len text) text ≡ piece) × (drop (first_len text) text ≡ rest) × (list_any (λ _. true) text ≡ true)
 
-abbrev pub AreCut : List Making → List ℕ → Type 0
+abbrev pub AreCut : List Name → List ℕ → Type 0
 AreCut [] last = IsCut last last []
-AreCut (making ∷ more) last = IsCut (joined (making ∷ more) last) making.text (joined more last) × AreCut more last
+AreCut (m ∷ more) last = IsCut (joined (m ∷ more) last) (text_for m) (joined more last) × AreCut more last
 
-pub cut_last : (makings : List Making) (last : List ℕ) → AreCut makings last → IsCut last last []
+pub are_cut : AreCut names insert_version
+unfolding everything
+are_cut = (
+  (refl, refl, refl),
+  (
+    (refl, refl, refl),
+    (
+      (refl, refl, refl),
+      (
+        (refl, refl, refl),
+        (
+          (refl, refl, refl),
+          ((refl, refl, refl), ((refl, refl, refl), ((refl, refl, refl), ((refl, refl, refl), (refl, refl, refl))))),
+        ),
+      ),
+    ),
+  ),
+)
+
+pub cut_last : (ns : List Name) (last : List ℕ) → AreCut ns last → IsCut last last []
 cut_last [] last cut = cut
-cut_last (making ∷ more) last cut = cut_last more last cut.1
+cut_last (m ∷ more) last cut = cut_last more last cut.1
 
 module _ {S : Type 0} (g : Ghosts S) where
   abbrev pub Ran : List ℕ → Held S → Held S → Type 0
@@ -88,15 +91,15 @@ module _ {S : Type 0} (g : Ghosts S) where
   ended old new r (suc most, ran) = ran
 
   -- each was run, and the last text after them
-  abbrev pub InTurn : List Making → List ℕ → Held S → Held S → Type 0
+  abbrev pub InTurn : List Name → List ℕ → Held S → Held S → Type 0
   InTurn [] last old new = Ran last old new
-  InTurn (making ∷ more) last old new = (mid : Held S) × Ran making.text old mid × InTurn more last mid new
+  InTurn (m ∷ more) last old new = (mid : Held S) × Ran (text_for m) old mid × InTurn more last mid new
 
-  pub in_turn : (makings : List Making) (last : List ℕ) → AreCut makings last → (old new : Held S)
-      → Goes (joined makings last) old new (Ok tt) → InTurn makings last old new
+  pub in_turn : (ns : List Name) (last : List ℕ) → AreCut ns last → (old new : Held S)
+      → Goes (joined ns last) old new (Ok tt) → InTurn ns last old new
   in_turn [] last cut old new ran =
       let it = on (turn last last [] cut old new (Ok tt) ran) in
       subst (Ran last old) (sym (ended it.0 new (Ok tt) it.2).1) it.1
-  in_turn (making ∷ more) last cut old new ran =
-      let it = on (turn (joined (making ∷ more) last) making.text (joined more last) cut.0 old new (Ok tt) ran) in
+  in_turn (m ∷ more) last cut old new ran =
+      let it = on (turn (joined (m ∷ more) last) (text_for m) (joined more last) cut.0 old new (Ok tt) ran) in
       (it.0, it.1, in_turn more last cut.1 it.0 new it.2)

@@ -1,21 +1,12 @@
 -- A statement that is run inside a transaction, from what it makes of the tables.
-use Rattle.std.proofs.Common.{◌≡◌, ℕ, List, Option, None, Result, Ok, Err, OnOk, IsTrue}
-use Rattle.std.proofs.Common.{subst, inl, inr}
-use Rattle.std.specs.Prelude.{unwrap_or}
-use Rattle.sqlite_value.specs.Order.{Row}
-use Rattle.sqlite_trees.specs.Tree.{Trees}
-use Rattle.sqlite_schema.specs.declared.command.Command.{Command}
-use Rattle.sqlite.specs.declared.error.Error.{Error}
-use Rattle.sqlite.specs.Effect.{Database, IsDatabase}
-use Rattle.sqlite.specs.Listing.{understood}
-use Rattle.sqlite.specs.Does.{Tally, Does}
-use Rattle.sqlite.specs.State.{State, HasCleanDisk, Survives, KeepsCommit, ExecutesInside, IsUnchanged, IsRolledBack}
-use Rattle.sqlite.specs.State.{Runs, Writes}
-use Rattle.sqlite.proofs.Callers.{IsPlain, command_of, statement_of, runs_as}
+use Rattle.tables.proofs.Words.{Command, Database, Does, Err, Error, ExecutesInside, HasCleanDisk, IsDatabase, IsPlain}
+use Rattle.tables.proofs.Words.{IsRolledBack, IsTrue, IsUnchanged, KeepsCommit, List, None, Ok, OnOk, Option, Result}
+use Rattle.tables.proofs.Words.{Row, Runs, State, Survives, Tally, Trees, Writes, command_of, inl, inr, runs_as}
+use Rattle.tables.proofs.Words.{statement_of, subst, understood, unwrap_or, ℕ, ◌≡◌}
+use Rattle.tables.specs.Layout.{Holds, IsDatabaseOf}
 use Rattle.tables.specs.Schema.{the_schema}
 use Rattle.tables.specs.Tables.{Tables}
-use Rattle.tables.specs.Layout.{Holds, IsDatabaseOf}
-use Rattle.tables.specs.Transaction.{Goes, Carries}
+use Rattle.tables.specs.Transaction.{Carries, Goes}
 use Rattle.tables.proofs.WriteLemmas.{plain_mode}
 
 pub keeps_unchanged : (old new : State) → IsUnchanged old new → KeepsCommit old new
@@ -38,8 +29,19 @@ Makes command params step =
     → Does limit plain_mode params (record { schema = the_schema; trees = db }) text None command (Ok out)
     → IsDatabaseOf (step t) out.1
 
-module _ (sql : List ℕ) (params : Row) (command : Command) (is : command_of (understood the_schema sql) ≡ command)
-    (plain : IsPlain (understood the_schema sql))
+-- a statement, as our schema has its text
+pub record Says (sql : List ℕ) (command : Command) : Type 0 where
+  pub is : command_of (understood the_schema sql) ≡ command
+  pub plain : IsPlain (understood the_schema sql)
+
+-- a statement with these parameters takes a step, wherever it is run inside a transaction
+abbrev pub Steps : List ℕ → Row → (Tables → Tables) → Type 1
+Steps sql params step =
+    (old new : State) (result : Result ℕ Error) → Survives old new (λ _. ⊥) → (given : Row) → given ≡ params
+    → (HasCleanDisk new → IsTrue old.in_transaction → ExecutesInside 0 sql given old new result)
+    → Carries step old new result
+
+module _ {sql : List ℕ} {command : Command} (says : Says sql command) (params : Row)
     (writes : (old new : State) (text : List ℕ) (count : ℕ) → Runs old new None command text params count
     → Writes old new None command text params count) where
   -- what it did, under the schema
@@ -49,7 +51,8 @@ module _ (sql : List ℕ) (params : Row) (command : Command) (is : command_of (u
       (Ok (tally, new.now)) × (count ≡ unwrap_or tally.rows 0) × IsDatabase new.now
   did old new count has h =
       let text = statement_of sql (understood the_schema sql) in
-      let w = writes old new text count (runs_as sql params old new the_schema has command is plain count h.0) in (
+      let w = writes old new text count
+      (runs_as sql params old new the_schema has command says.is says.plain count h.0) in (
         w.tally,
         text,
         subst (λ s. Does old.step_limit plain_mode params (record { schema = s; trees = old.now.trees })
@@ -58,11 +61,7 @@ module _ (sql : List ℕ) (params : Row) (command : Command) (is : command_of (u
         w.sound,
       )
 
-  pub carried : (step : Tables → Tables) → Makes command params step → (old new : State) (result : Result ℕ Error)
-      → Survives old new (λ _. ⊥)
-      → (given : Row) → given ≡ params
-      → (HasCleanDisk new → IsTrue old.in_transaction → ExecutesInside 0 sql given old new result)
-      → Carries step old new result
+  pub carried : (step : Tables → Tables) → Makes command params step → Steps sql params step
   carried step makes old new result survives given same ran = record {
     survives = survives;
     kept = λ clean inside. kept_inside sql params old new result (runs clean inside);

@@ -1,9 +1,5 @@
 -- Rows that are equal cell by cell.
-use Rattle.std.proofs.Common.{◌≡◌, ℕ, ℤ, List, ◌∷◌, ap, ap₂}
-use Rattle.sqlite_value.specs.declared.value.Value.TheVariants.{Int, Text}
-use Rattle.sqlite_value.specs.declared.value.Value.{Value}
-use Rattle.sqlite_value.specs.Order.{Row}
-use Rattle.sqlite.specs.Values.{bound_value}
+use Rattle.tables.proofs.Words.{Int, List, Row, Text, Value, ap, ap₂, bound_value, ℕ, ℤ, ◌∷◌, ◌≡◌}
 
 pub int_more : {m n : ℤ} {a b : Row} → m ≡ n → a ≡ b → Int m ∷ a ≡ Int n ∷ b
 int_more p q = ap₂ (λ z r. Int z ∷ r) p q

@@ -1,27 +1,15 @@
 -- What an edit makes of the rows of a table, in terms of what they say.
-use Rattle.std.proofs.Common.{◌≡◌, ◌≢◌, ℤ, Bool, true, false, not, cond, List, [], ◌∷◌, ◌++◌, map, filter, drop, refl}
-use Rattle.std.proofs.Common.{sym, ap, ◌∙◌, subst, IsPermutation}
-use Rattle.std.proofs.lemmas.Bool.{and_parts}
-use Rattle.std.proofs.lemmas.List.{map-append}
-use Rattle.std.proofs.lemmas.List.Sorted.{IsPermutation-sym, IsPermutation-cons}
-use Rattle.std.proofs.lemmas.List.Sorted.{IsPermutation-trans, IsPermutation-map}
-use Rattle.std.proofs.lemmas.List.Sorted.{IsPermutation-append_left}
-use Rattle.sqlite_value.specs.declared.value.Value.{Value}
-use Rattle.sqlite_value.specs.declared.value.Value.TheVariants.{Null}
-use Rattle.sqlite_value.specs.Order.{Row}
-use Rattle.sqlite_trees.specs.Tree.{put_row}
-use Rattle.sqlite_trees.specs.View.{IsShaped}
-use Rattle.sqlite_trees.specs.declared.store.Shape.TheVariants.{Table}
-use Rattle.sqlite_trees.proofs.ListLemmas.{map-map, filter-map, pull_back, IsPermutation-filter}
 use Rattle.sqlite_trees.proofs.TreeLemmas.{IsShaped-filter, IsShaped-put_row}
-use Rattle.sqlite_rules.specs.declared.error.Rowids.TheVariants.{Given}
-use Rattle.sqlite_rules.specs.Edit.{put_all, without_all, are_fresh, have_rowids, numbered}
-use Rattle.sqlite_rules.specs.Calls.{ids_of}
-use Rattle.sqlite_rules.specs.Lists.{Has}
-use Rattle.sqlite_rules.proofs.ListLemmas.{has_filtered, has_kept}
+use Rattle.sqlite_trees.specs.declared.store.Shape.TheVariants.{Table}
+use Rattle.tables.proofs.Words.{Bool, Given, Has, IsPermutation, IsPermutation-append_left, IsPermutation-cons}
+use Rattle.tables.proofs.Words.{IsPermutation-filter, IsPermutation-map, IsPermutation-sym, IsPermutation-trans}
+use Rattle.tables.proofs.Words.{IsShaped, List, Null, Row, Value, [], and_parts, ap, are_fresh, cond, drop, false}
+use Rattle.tables.proofs.Words.{filter, filter-map, has_filtered, has_kept, have_rowids, ids_of, map, map-append}
+use Rattle.tables.proofs.Words.{map-map, not, numbered, pull_back, put_all, put_row, refl, subst, sym, true}
+use Rattle.tables.proofs.Words.{without_all, ℤ, ◌++◌, ◌∙◌, ◌∷◌, ◌≡◌, ◌≢◌}
 use Rattle.tables.specs.Layout.{AreRows, said}
-use Rattle.tables.proofs.ListLemmas.{map_same_in, filter_equal, split_changed, has_permutation, has_image, image_has}
-use Rattle.tables.proofs.RowLemmas.{put_all_is, left_is}
+use Rattle.tables.proofs.ListLemmas.{filter_equal, has_image, has_permutation, image_has, map_same_in, split_changed}
+use Rattle.tables.proofs.RowLemmas.{left_is, put_all_is}
 
 pub numbered_given : (rows news : List Row) → numbered Given rows news ≡ news
 numbered_given rows [] = refl

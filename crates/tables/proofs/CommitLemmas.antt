@@ -1,17 +1,11 @@
 -- A transaction that ends in a commit.
-use Rattle.std.proofs.Common.{◌≡◌, [], true, false, Result, Ok, Err, OnOk, OnErr, IfErr, IsTrue, refl, sym}
-use Rattle.std.proofs.Common.{◌∙◌, subst, inl, inr, arith}
-use Rattle.sqlite_trees.specs.declared.store.Store.{Ghosts}
-use Rattle.sqlite.specs.declared.error.Error.{Error}
-use Rattle.sqlite_catalog.specs.Listing.{IsSound}
-use Rattle.sqlite.specs.Effect.{Database, IsDatabase}
-use Rattle.sqlite.specs.State.{State, HasCleanDisk, Survives, KeepsCommit, Shows, KeepsCounts}
-use Rattle.sqlite.specs.Steps.{FailsToCommit}
-use Rattle.sqlite.specs.Held.{Held, state}
-use Rattle.tables.specs.Tables.{Tables}
-use Rattle.tables.specs.Layout.{IsStored, IsDatabaseOf}
+use Rattle.tables.proofs.Words.{Database, Err, Error, FailsToCommit, Ghosts, HasCleanDisk, Held, IfErr, IsDatabase}
+use Rattle.tables.proofs.Words.{IsSound, IsTrue, KeepsCommit, KeepsCounts, Ok, OnErr, OnOk, Result, Shows, State}
+use Rattle.tables.proofs.Words.{Survives, [], arith, false, inl, inr, refl, state, subst, sym, true, ◌∙◌, ◌≡◌}
+use Rattle.tables.specs.Layout.{IsDatabaseOf, IsStored}
 use Rattle.tables.specs.QueryAnswers.{StaysUsable}
-use Rattle.tables.specs.Transaction.{GoesFrom, CarriesFrom, CommitsFrom}
+use Rattle.tables.specs.Tables.{Tables}
+use Rattle.tables.specs.Transaction.{CarriesFrom, CommitsFrom, GoesFrom}
 use Rattle.tables.proofs.UsableLemmas.{survivor_usable, usable_in_turn}
 
 -- a sound database of the tables lists our schema

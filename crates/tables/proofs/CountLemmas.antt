@@ -1,25 +1,22 @@
 -- Statements in turn, and the tally of a stamp.
-use Rattle.std.proofs.Common.{◌≡◌, ◌≢◌, ◌+◌, ◌||◌, ℕ, Bool, true, false, cond, List, [], ◌∷◌, map, filter, length}
-use Rattle.std.proofs.Common.{Result, Ok, Err, OnOk, IsTrue, refl, sym, ap, ◌∙◌, subst, arith}
-use Rattle.std.specs.List.{list_any}
-use Rattle.sqlite.specs.declared.error.Error.{Error}
-use Rattle.sqlite.specs.Effect.{Database}
-use Rattle.sqlite.specs.State.{State, HasCleanDisk, KeepsCommit}
-use Rattle.sqlite.proofs.StateLemmas.{survives_then}
-use Rattle.tables.specs.Tables.{Tables, TallyRow, is_tally_of, raised_row}
-use Rattle.tables.specs.Steps.{with_raised, with_first_tally, with_count}
+use Rattle.tables.proofs.Words.{Bool, Database, Err, Error, HasCleanDisk, IsTrue, KeepsCommit, List, Ok, OnOk, Result}
+use Rattle.tables.proofs.Words.{State, [], ap, arith, cond, false, filter, length, list_any, map, refl, subst}
+use Rattle.tables.proofs.Words.{survives_then, sym, true, ℕ, ◌+◌, ◌||◌, ◌∙◌, ◌∷◌, ◌≡◌, ◌≢◌}
 use Rattle.tables.specs.Layout.{IsDatabaseOf}
-use Rattle.tables.specs.Transaction.{GoesFrom, CarriesFrom, IsSoundOf, Goes, Carries}
+use Rattle.tables.specs.Tables.{Tables, TallyRow, is_tally_of, raised_row}
+use Rattle.tables.specs.Transaction.{Carries, CarriesFrom, Goes, GoesFrom, IsSoundOf}
+use Rattle.tables.specs.auxiliary.Steps.{with_count, with_first_tally, with_raised}
 use Rattle.tables.proofs.ListLemmas.{none_any, some_any}
 
 pub keeps_then : (a b c : State) → KeepsCommit a b → KeepsCommit b c → KeepsCommit a c
 keeps_then a b c p q =
     record { was_open = λ o. p.was_open (q.was_open o); committed = λ o. q.committed o ∙ p.committed (q.was_open o) }
 
--- one step, whatever is known by it, and then another
-pub chained : {X Y : Type 0} {K : Type 0} (f h : Tables → Tables) (a b c : State) (x : X) (result : Result Y Error)
-    → CarriesFrom IsSoundOf K f a b (Ok x) → Carries h b c result → Carries (λ t. h (f t)) a c result
-chained {X} {Y} {K} f h a b c x result p q = record {
+-- a step from what is known of a database, and then another of the tables that it made
+pub built_on : {X Y : Type 0} {Before : Tables → Database → Type 0} {K L : Type 0} (f h : Tables → Tables)
+    (a b c : State) (x : X) (result : Result Y Error)
+    → CarriesFrom Before K f a b (Ok x) → Carries h b c result → CarriesFrom Before L (λ t. h (f t)) a c result
+built_on {X} {Y} {Before} {K} {L} f h a b c x result p q = record {
   survives = survives_then a b c (λ _. ⊥) (λ _. ⊥) (λ _. ⊥) (λ _ db none. none) (λ _ db none. none) p.survives
       q.survives;
   kept = λ clean inside. let early = clean_before clean in let one = p.ok early inside in
@@ -31,43 +28,20 @@ chained {X} {Y} {K} f h a b c x result p q = record {
     clean_before : HasCleanDisk c → HasCleanDisk b
     clean_before clean = omega (arith, q.survives.clean)
 
-    after : GoesFrom IsSoundOf K f a b → (t : Tables) → IsSoundOf t a.now → IsSoundOf (f t) b.now
-    after one t d = record { database = one.goes t d; sound = one.sound t d }
-
-    both : KeepsCommit a b → GoesFrom IsSoundOf K f a b → (r : Result Y Error) → OnOk r (Goes h b c)
-        → OnOk r (Goes (λ t. h (f t)) a c)
+    both : KeepsCommit a b → GoesFrom Before K f a b → (r : Result Y Error) → OnOk r (Goes h b c)
+        → OnOk r (GoesFrom Before L (λ t. h (f t)) a c)
     both kept one (Err e) two = tt
     both kept one (Ok y) two = record {
-      was_open = λ known. kept.was_open (two.was_open known);
-      inside = two.inside;
-      goes = λ t d. two.goes (f t) (after one t d);
-      sound = λ t d. two.sound (f t) (after one t d);
-    }
-
--- a step from what is known of a database, and then another of the tables that it made
-pub built_on : {X Y : Type 0} (Before : Tables → Database → Type 0) (K : Type 0) (f h : Tables → Tables)
-    (a b c : State) (x : X) (result : Result Y Error)
-    → CarriesFrom Before K f a b (Ok x) → Carries h b c result → CarriesFrom Before K (λ t. h (f t)) a c result
-built_on {X} {Y} Before K f h a b c x result p q = record {
-  survives = survives_then a b c (λ _. ⊥) (λ _. ⊥) (λ _. ⊥) (λ _ db none. none) (λ _ db none. none) p.survives
-      q.survives;
-  kept = λ clean inside. let early = clean_before clean in let one = p.ok early inside in
-      keeps_then a b c (p.kept early inside) (q.kept clean one.inside);
-  ok = λ clean inside. let one = p.ok (clean_before clean) inside in both one result (q.ok clean one.inside);
-}
-  where
-    clean_before : HasCleanDisk c → HasCleanDisk b
-    clean_before clean = omega (arith, q.survives.clean)
-
-    both : GoesFrom Before K f a b → (r : Result Y Error) → OnOk r (Goes h b c)
-        → OnOk r (GoesFrom Before K (λ t. h (f t)) a c)
-    both one (Err e) two = tt
-    both one (Ok y) two = record {
-      was_open = one.was_open;
+      was_open = λ known. kept.was_open (two.was_open tt);
       inside = two.inside;
       goes = λ t d. two.goes (f t) (record { database = one.goes t d; sound = one.sound t d });
       sound = λ t d. two.sound (f t) (record { database = one.goes t d; sound = one.sound t d });
     }
+
+-- one step, whatever is known by it, and then another
+pub chained : {X Y : Type 0} {K : Type 0} (f h : Tables → Tables) (a b c : State) (x : X) (result : Result Y Error)
+    → CarriesFrom IsSoundOf K f a b (Ok x) → Carries h b c result → Carries (λ t. h (f t)) a c result
+chained = built_on
 
 -- the same step in other words, of what is known by it or less
 pub restated : {X : Type 0} {K L : Type 0} (f h : Tables → Tables) (a b : State) (result : Result X Error) → (L → K)

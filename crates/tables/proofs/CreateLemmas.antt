@@ -1,46 +1,25 @@
 -- The batch that makes the tables, from an empty schema.
-use Rattle.std.proofs.Common.{◌≡◌, ◌≢◌, ℕ, pos, true, false, List, [], ◌∷◌, map, length}
-use Rattle.std.proofs.Common.{Option, None, Result, Ok, Err, OnOk, IsTrue, refl, sym, ap}
-use Rattle.std.proofs.Common.{◌∙◌, subst}
-use Rattle.std.specs.List.{AllByRecursion}
-use Rattle.std.proofs.lemmas.List.Sorted.{IsPermutation-refl}
-use Rattle.sqlite_value.specs.declared.value.Value.TheVariants.{Null, Int}
-use Rattle.sqlite_value.specs.Order.{Row}
-use Rattle.sqlite_trees.specs.Tree.{Trees}
-use Rattle.sqlite_trees.specs.declared.store.Store.{Ghosts}
-use Rattle.sqlite_trees.proofs.ListLemmas.{all_both, all-append}
-use Rattle.sqlite_sql.specs.Term.{Term, lit}
-use Rattle.sqlite_schema.specs.declared.schema.Table.{Table}
-use Rattle.sqlite_schema.specs.declared.schema.Schema.{Schema}
-use Rattle.sqlite_schema.specs.declared.command.Command.TheVariants.{CreateTable, Insert}
-use Rattle.sqlite_schema.specs.declared.command.Source.TheVariants.{Values}
-use Rattle.sqlite_resolve.specs.Compile.{table_defined_by}
-use Rattle.sqlite_catalog.specs.Change.{created, is_used, next_tree, KeepsRows}
-use Rattle.sqlite_rules.specs.declared.error.Rowids.TheVariants.{Chosen}
-use Rattle.sqlite_rules.specs.Edit.{edit_of, next_rowid}
-use Rattle.sqlite_tied.specs.Compute.{everything}
-use Rattle.sqlite.specs.declared.error.Error.{Error}
-use Rattle.sqlite.specs.Effect.{Database, IsDatabase, value_rows}
-use Rattle.sqlite.specs.Batch.{ExecutesAllInside}
-use Rattle.sqlite.specs.Does.{Tally, Does, lacks_sequence}
-use Rattle.sqlite.specs.Held.{Held, state}
-use Rattle.sqlite.specs.Listing.{understood}
-use Rattle.sqlite.specs.State.{State, HasCleanDisk, Survives, KeepsCommit, Writes, ExecutesIn}
-use Rattle.sqlite.proofs.Callers.{IsPlain, command_of, statement_of}
-use Rattle.tables.specs.Names.{Name}
-use Rattle.tables.specs.Names as name
-use Rattle.tables.specs.Creation.{Making, makings, insert_version, make_all}
-use Rattle.tables.specs.Schema.{the_schema, the_version, no_schema, schema_after, placed, meta}
+use Rattle.tables.proofs.Words.{AllByRecursion, Chosen, CreateTable, Database, Does, Err, Error, ExecutesAllInside}
+use Rattle.tables.proofs.Words.{ExecutesIn, Ghosts, HasCleanDisk, Held, Insert, Int, IsDatabase, IsPermutation-refl}
+use Rattle.tables.proofs.Words.{IsPlain, IsTrue, KeepsCommit, KeepsRows, List, None, Null, Ok, OnOk, Option, Result}
+use Rattle.tables.proofs.Words.{Row, Schema, State, Survives, Table, Tally, Term, Trees, Values, Writes, [], all-append}
+use Rattle.tables.proofs.Words.{all_both, ap, command_of, created, edit_of, everything, false, is_used, lacks_sequence}
+use Rattle.tables.proofs.Words.{length, lit, map, next_rowid, next_tree, pos, refl, state, statement_of, subst, sym}
+use Rattle.tables.proofs.Words.{table_defined_by, true, understood, value_rows, ℕ, ◌∙◌, ◌∷◌, ◌≡◌, ◌≢◌}
+use Rattle.tables.specs.Layout.{AreRows, HoldsAt, IsDatabaseOf, tree_of, version_cells}
+use Rattle.tables.specs.Names.{Name, names}
+use Rattle.tables.specs.Schema.{no_schema, placed, schema_after, table_for, the_schema, the_version}
 use Rattle.tables.specs.Tables.{no_rows}
-use Rattle.tables.specs.Transaction.{GoesFrom, CarriesFrom}
-use Rattle.tables.specs.Layout.{AreRows, HoldsAt, IsDatabaseOf, version_cells, tree_of}
-use Rattle.tables.proofs.BatchLemmas.{ran_as, went, same_ok, Ran, Goes, InTurn, in_turn}
-use Rattle.tables.proofs.NameLemmas.{IsMaking, free_as_alone}
-use Rattle.tables.proofs.MakingLemmas.{are_makings, are_cut}
-use Rattle.tables.proofs.FrameLemmas.{framed, at_name}
-use Rattle.tables.proofs.WriteLemmas.{plain_mode, inserts}
-use Rattle.tables.proofs.InsertLemmas.{cast_int, cast_null}
+use Rattle.tables.specs.Transaction.{CarriesFrom, GoesFrom}
+use Rattle.tables.specs.auxiliary.Creation.{insert_version, make_all, text_for}
+use Rattle.tables.proofs.BatchLemmas.{Goes, InTurn, Ran, are_cut, in_turn, ran_as}
 use Rattle.tables.proofs.ChangeLemmas.{inserted}
+use Rattle.tables.proofs.FrameLemmas.{at_name, framed, is_current, placed_table}
+use Rattle.tables.proofs.InsertLemmas.{cast_int, cast_null}
+use Rattle.tables.proofs.NameLemmas.{free_as_alone, makes}
+use Rattle.tables.proofs.WriteLemmas.{inserts, plain_mode, same_ok, went}
+use Rattle.tables.specs.declared.version.Version.TheVariants as version
+use Rattle.tables.specs.Names as name
 
 -- ---- one table
 
@@ -83,21 +62,23 @@ makes_table sql old new schema table count has is plain_schema h =
     (ran_as sql old new schema has CreateTable is.0 is.2 count h)
 
 -- where its name is free
-pub makes_in : (m : Making) → IsMaking m → (s : Schema) → is_used s m.table.name ≡ false → MakesIn s m.text m.table
-makes_in m is s free =
-    subst (λ r. (command_of r ≡ CreateTable) × (table_defined_by (statement_of m.text r) ≡ Ok m.table) × IsPlain r)
-    (sym (free_as_alone m.text m.table is.depends is.alone s free)) is.alone
+pub makes_in : (m : Name) (s : Schema) → is_used s (table_for m).name ≡ false → MakesIn s (text_for m) (table_for m)
+makes_in m s free =
+    subst (λ r. (command_of r ≡ CreateTable) × (table_defined_by (statement_of (text_for m) r) ≡ Ok (table_for m))
+    × IsPlain r)
+    (sym (free_as_alone (text_for m) (table_for m) (makes m).depends (makes m).alone s free)) (makes m).alone
 
 -- ---- all of them
 
-abbrev pub schema_with : Schema → List Making → Schema
-schema_with s makings = schema_after (map (λ (m : Making). m.table) makings) s
+abbrev pub schema_with : Schema → List Name → Schema
+schema_with s ns = schema_after (map table_for ns) s
 
 -- each name is free when its turn comes, and no table counts its rows
-abbrev pub AreNew : Schema → List Making → Type 0
+abbrev pub AreNew : Schema → List Name → Type 0
 AreNew s [] = Unit {0}
 AreNew s (m ∷ more) =
-    (is_used s m.table.name ≡ false) × (lacks_sequence (created s m.table) ≡ false) × AreNew (created s m.table) more
+    (is_used s (table_for m).name ≡ false) × (lacks_sequence (created s (table_for m)) ≡ false)
+    × AreNew (created s (table_for m)) more
 
 abbrev AreEmpty : Schema → Trees → Type 0
 AreEmpty s db = AllByRecursion (λ (t : Table). db t.tree ≡ []) s.tables
@@ -111,24 +92,25 @@ one_more s table old new empty keeps all =
     (empty, tt)
 
 module _ {S : Type 0} (g : Ghosts S) where
-  record Made (s : Schema) (makings : List Making) (last : List ℕ) (new : Held S) : Type 0 where
+  record Made (s : Schema) (ns : List Name) (last : List ℕ) (new : Held S) : Type 0 where
     mid : Held S
     ran : Ran g last mid new
-    schema : (state g mid).now.schema ≡ schema_with s makings
-    empty : AreEmpty (schema_with s makings) (state g mid).now.trees
+    schema : (state g mid).now.schema ≡ schema_with s ns
+    empty : AreEmpty (schema_with s ns) (state g mid).now.trees
 
-  all_made : (makings : List Making) → AllByRecursion IsMaking makings → (last : List ℕ) (old new : Held S)
-      (s : Schema) → (state g old).now.schema ≡ s → AreNew s makings → AreEmpty s (state g old).now.trees
-      → InTurn g makings last old new → Made s makings last new
-  all_made [] are last old new s has free empty ran = record { mid = old; ran = ran; schema = has; empty = empty }
-  all_made (m ∷ more) are last old new s has free empty (mid, ran, rest) =
-      let made = makes_table m.text (state g old) (state g mid) s m.table ran.0 has (makes_in m are.0 s free.0) free.1
+  all_made : (ns : List Name) (last : List ℕ) (old new : Held S)
+      (s : Schema) → (state g old).now.schema ≡ s → AreNew s ns → AreEmpty s (state g old).now.trees
+      → InTurn g ns last old new → Made s ns last new
+  all_made [] last old new s has free empty ran = record { mid = old; ran = ran; schema = has; empty = empty }
+  all_made (m ∷ more) last old new s has free empty (mid, ran, rest) =
+      let made = makes_table (text_for m) (state g old) (state g mid) s (table_for m) ran.0 has
+      (makes_in m s free.0) free.1
       ran.1 in
-      let it = all_made more are.1 last mid new (created s m.table) made.0 free.2
-      (one_more s m.table (state g old).now.trees (state g mid).now.trees made.1 made.2 empty) rest in
+      let it = all_made more last mid new (created s (table_for m)) made.0 free.2
+      (one_more s (table_for m) (state g old).now.trees (state g mid).now.trees made.1 made.2 empty) rest in
       record { mid = it.mid; ran = it.ran; schema = it.schema; empty = it.empty }
 
-ours_new : AreNew no_schema makings
+ours_new : AreNew no_schema names
 unfolding everything
 ours_new = (refl, refl, (refl, refl, (refl, refl, (refl, refl, (refl, refl, (refl, refl, (refl, refl, (refl, refl, (refl, refl, tt)))))))))
 
@@ -142,7 +124,7 @@ version_is : (command_of (understood the_schema insert_version) ≡ Insert 0 (Va
 unfolding understood everything
 version_is = (refl, (refl, refl))
 
-version_news : (db : Trees) → (edit_of db (placed 0 meta) [] Chosen 0 (value_rows [] 2 1 version_terms)).news
+version_news : (db : Trees) → (edit_of db (placed_table name.Meta) [] Chosen 0 (value_rows [] 2 1 version_terms)).news
     ≡ (Int (next_rowid (db 0)) ∷ version_cells 3) ∷ []
 version_news db = simp (cast_int, cast_null)
 
@@ -159,14 +141,14 @@ versioned limit text db out empty does =
     let made = inserts limit [] the_schema db text 0 _ _ _ _ _ _ _ 0 refl out version_terms 2 does in
     record {
       schema = made.1;
-      holds = framed db out.1.trees no_rows no_rows name.Meta made.0.tables others
+      holds = framed db out.1.trees no_rows name.Meta made.0.tables others
           (inserted version_cells (λ x e. cc) false [] 3 (db 0) (out.1.trees 0) _ (Int (next_rowid (db 0))
           ∷ version_cells 3) (empty_rows false version_cells (db 0) (none name.Meta)) made.0.keyed made.0.fresh
           made.0.rows (version_news db) refl) tt;
     }
   where
     none : (n : Name) → db (tree_of n) ≡ []
-    none = at_name (λ tree. db tree ≡ []) empty
+    none n = at_name version.Current (λ tree. db tree ≡ []) empty n (is_current n)
 
     others : (m : Name) → tree_of m ≢ 0 → HoldsAt the_version m no_rows db
     others name.Meta apart = absurd (apart refl)
@@ -175,8 +157,8 @@ versioned limit text db out empty does =
 pub made_all : {S : Type 0} (g : Ghosts S) (old new : Held S) → (state g old).now.schema ≡ no_schema
     → Goes g make_all old new (Ok tt) → IsDatabaseOf no_rows (state g new).now × IsDatabase (state g new).now
 made_all g old new has ran =
-    let it = all_made g makings are_makings insert_version old new no_schema has ours_new tt
-    (in_turn g makings insert_version are_cut old new ran) in
+    let it = all_made g names insert_version old new no_schema has ours_new tt
+    (in_turn g names insert_version are_cut old new ran) in
     let w = ran_as insert_version (state g it.mid) (state g new) the_schema it.schema (Insert 0 (Values version_terms 2))
     version_is.0 version_is.1 it.ran.0 it.ran.1 in
     let text = statement_of insert_version (understood the_schema insert_version) in

@@ -1,21 +1,16 @@
 -- Entries in turn, inside one transaction.
-use Rattle.std.proofs.Common.{◌≡◌, ◌<◌, ◌≤◌, ◌+◌, ◌==◌, ℕ, true, IsTrue, List, [], ◌∷◌, ◌++◌, length, take, get_or}
-use Rattle.std.proofs.Common.{Result, Ok, Err, refl, sym, ap, ◌∙◌, arith}
-use Rattle.std.proofs.lemmas.Bool.{eqb-true}
-use Rattle.std.proofs.lemmas.List.{take_more, take_all, map-append}
-use Rattle.sqlite.specs.declared.error.Error.{Error}
-use Rattle.sqlite.specs.Effect.{Database}
-use Rattle.sqlite.specs.State.{State}
 use Rattle.book.specs.declared.entries.Entry.{Entry}
-use Rattle.book.specs.Entries.{entry_view, entries_view}
-use Rattle.book.specs.History as history
-use Rattle.tables.specs.Versions.{Fills}
+use Rattle.tables.proofs.Words.{Database, Err, Error, IsTrue, List, Ok, Result, State, [], ap, arith, entries_view}
+use Rattle.tables.proofs.Words.{entry_view, eqb-true, get_or, length, map-append, refl, sym, take, take_all, take_more}
+use Rattle.tables.proofs.Words.{true, ℕ, ◌++◌, ◌+◌, ◌<◌, ◌==◌, ◌∙◌, ◌∷◌, ◌≡◌, ◌≤◌}
+use Rattle.tables.specs.Changes.{applied, applied_all}
 use Rattle.tables.specs.Schema.{no_schema}
 use Rattle.tables.specs.Tables.{Tables, no_rows}
-use Rattle.tables.specs.Transaction.{CarriesFrom, IsSoundOf, Carries}
-use Rattle.tables.specs.Changes.{applied, applied_all}
-use Rattle.tables.proofs.AnswerLemmas.{survives_same, keeps_same}
+use Rattle.tables.specs.Transaction.{Carries, CarriesFrom, IsSoundOf}
+use Rattle.tables.specs.Versions.{Fills}
+use Rattle.tables.proofs.AnswerLemmas.{keeps_same, survives_same}
 use Rattle.tables.proofs.CountLemmas.{built_on, chained, restated}
+use Rattle.book.specs.History as history
 
 applied_more : (entries : List history.Entry) (entry : history.Entry) (t : Tables)
     → applied_all (entries ++ entry ∷ []) t ≡ applied entry (applied_all entries t)
@@ -86,5 +81,4 @@ pub filled_each : (entries : List Entry) (old mid new : State) → Makes old mid
     → Carries {X = Unit {0}} (applied_all (entries_view entries)) mid new (Ok tt)
     → Fills (entries_view entries) old new (Ok tt)
 filled_each entries old mid new makes carries =
-    built_on (λ _ (d : Database). d.schema ≡ no_schema) (IsTrue old.is_open) (λ _. no_rows)
-    (applied_all (entries_view entries)) old mid new tt (Ok tt) makes carries
+    built_on (λ _. no_rows) (applied_all (entries_view entries)) old mid new tt (Ok tt) makes carries

@@ -1,32 +1,21 @@
 -- The row of `meta` in any schema where the table has just been made.
-use Rattle.std.proofs.Common.{◌≡◌, ℕ, ◌+◌, if◌then◌else◌, List, [], ◌∷◌}
-use Rattle.std.proofs.Common.{codes, None, Option, Ok, Err, refl, ap, ◌∙◌}
-use Rattle.sqlite_ast.specs.declared.Rows.{Rows}
-use Rattle.sqlite_ast.specs.declared.Rows.TheVariants as rows
-use Rattle.std.specs.Prelude.{unwrap_or, option_map, option_and_then, slice_get}
-use Rattle.sqlite_schema.specs.declared.schema.Table.{Table}
-use Rattle.sqlite_resolve.specs.declared.error.CompileError.TheVariants.{NoSuchTable}
+use Rattle.std.specs.Prelude.{slice_get}
 use Rattle.sqlite_resolve.specs.Body.{table_at}
 use Rattle.sqlite.specs.Given.{IsPlain}
-use Rattle.sqlite.proofs.Callers.{command_of}
-use Rattle.tables.specs.Versions.{IsUnderstood}
-use Rattle.tables.proofs.FreeLemmas.{HasMeta}
+use Rattle.sqlite_ast.specs.declared.Rows.{Rows}
 use Rattle.sqlite_ast.specs.declared.Statement.{Statement}
-use Rattle.sqlite_ast.specs.declared.Statement.TheVariants as written
-use Rattle.sqlite_syntax.specs.declared.statement.Parsed.{Parsed}
-use Rattle.sqlite_schema.specs.declared.schema.Schema.{Schema}
-use Rattle.sqlite_schema.specs.declared.command.Command.{Command}
-use Rattle.sqlite_schema.specs.declared.command.Command.TheVariants.{Insert}
-use Rattle.sqlite_schema.specs.declared.command.Source.TheVariants.{Values}
-use Rattle.sqlite_schema.specs.declared.command.Returning.{Returning}
-use Rattle.sqlite_resolve.specs.declared.compiled.Compiled.{Compiled}
-use Rattle.sqlite_resolve.specs.Lowering.{Checked, and_then, or_else}
-use Rattle.sqlite_resolve.specs.Compile.{first, compiled, on_table, new_rows, formats_of, small}
-use Rattle.sqlite_tied.specs.Compute.{everything}
-use Rattle.sqlite.specs.Listing.{understood, listing_schema, misses_table, if_select}
-use Rattle.tables.specs.Schema.{the_schema, placed, meta}
-use Rattle.tables.specs.Creation.{insert_version}
+use Rattle.tables.proofs.Words.{Checked, Command, Compiled, Err, Insert, List, NoSuchTable, None, Ok, Option, Parsed}
+use Rattle.tables.proofs.Words.{Returning, Schema, Table, Values, [], and_then, ap, codes, command_of, compiled}
+use Rattle.tables.proofs.Words.{everything, first, formats_of, if_select, if◌then◌else◌, listing_schema, misses_table}
+use Rattle.tables.proofs.Words.{new_rows, on_table, option_and_then, option_map, or_else, refl, small, understood}
+use Rattle.tables.proofs.Words.{unwrap_or, ℕ, ◌+◌, ◌∙◌, ◌∷◌, ◌≡◌}
+use Rattle.tables.specs.Schema.{meta, placed, the_schema}
+use Rattle.tables.specs.Versions.{IsUnderstood}
+use Rattle.tables.specs.auxiliary.Creation.{insert_version}
 use Rattle.tables.proofs.CreateLemmas.{version_terms}
+use Rattle.tables.proofs.FreeLemmas.{HasMeta}
+use Rattle.sqlite_ast.specs.declared.Rows.TheVariants as rows
+use Rattle.sqlite_ast.specs.declared.Statement.TheVariants as written
 
 abbrev rows_in : Statement → Rows → Rows
 rows_in (written.Insert how name columns rows clauses shown) other = rows

@@ -1,21 +1,16 @@
 -- What a look-up tells of the tables, in the words of what is read of the first row of an answer.
-use Rattle.std.proofs.Common.{◌≡◌, ◌∙◌, ℕ, Bool, true, false, ◌||◌, List, [], ◌∷◌, ◌++◌, map, Option, None, Some}
-use Rattle.std.proofs.Common.{Result, refl}
-use Rattle.std.proofs.Common.{sym, ap, subst, inl, inr, Contains}
-use Rattle.std.specs.List.{list_any}
 use Rattle.std.specs.Option.{is_some}
-use Rattle.sqlite_value.specs.Order.{Row}
-use Rattle.sqlite_trees.specs.declared.store.Store.{Ghosts}
-use Rattle.sqlite_rules.specs.Lists.{Has}
-use Rattle.sqlite_rules.proofs.ListLemmas.{has_contained, contains_had}
-use Rattle.tables.specs.QueryAnswers.{TellsFirst, TellsRows, IsReadAs, AreReadAs}
+use Rattle.tables.proofs.Words.{Bool, Contains, Ghosts, Has, List, None, Option, Result, Row, Some, [], ap}
+use Rattle.tables.proofs.Words.{contains_had, false, has_contained, inl, inr, list_any, map, refl, subst, sym, true, ℕ}
+use Rattle.tables.proofs.Words.{◌++◌, ◌||◌, ◌∙◌, ◌∷◌, ◌≡◌}
 use Rattle.tables.specs.Base.{BaseValue}
-use Rattle.tables.specs.Found.{IsFoundAs, IsGreatestAs, IsLeastAs, AreFoundAs}
-use Rattle.tables.specs.Queries.{LooksUp, TellsRow, TellsAs, TellsAllAs}
+use Rattle.tables.specs.Found.{AreFoundAs, IsFoundAs, IsGreatestAs, IsLeastAs}
+use Rattle.tables.specs.Queries.{LooksUp, TellsAllAs, TellsAs, TellsRow}
+use Rattle.tables.specs.QueryAnswers.{AreReadAs, IsReadAs, TellsFirst, TellsRows}
 use Rattle.tables.specs.Tables.{Tables}
 use Rattle.tables.specs.declared.fault.TableFault.{TableFault}
 use Rattle.tables.proofs.BaseReads.{retold}
-use Rattle.tables.proofs.LookupLemmas.{Finds, FindsAll, FindsLeast, FindsGreatest}
+use Rattle.tables.proofs.LookupLemmas.{Finds, FindsAll, FindsGreatest, FindsLeast}
 
 module _ {X Y : Type 0} (image : X → Row) (IsRead : Row → Y → Type 0) (Shows : X → Y → Type 0)
     (read : (x : X) (row : Row) (y : Y) → row ≡ image x → IsRead row y → Shows x y) (xs : List X) where
@@ -61,26 +56,33 @@ module _ {S X : Type 0} (g : Ghosts S) {sql : List ℕ} {params : Row} {rows : T
         → LooksUp g (λ t found. IsFoundAs Shows test (rows t) found) old new r
     found_looks {test} finds = retold g _ _ old new r
         (λ t found (row, (db, h, told), is). found_as image IsRead Shows read (rows t) test row found
-        (finds.found t db row h (subst (λ p. TellsFirst sql p db row) same told)) is) l
+        (finds.found t db row h (subst (λ p. TellsFirst sql p db row) same (told finds.text))) is) l
 
     pub least_looks : {test : X → Bool} {key : X → ℕ} → FindsLeast sql params rows image test key
         → LooksUp g (λ t found. IsLeastAs Shows key test (rows t) found) old new r
     least_looks {test} {key} finds = retold g _ _ old new r
         (λ t found (row, (db, h, told), is). least_as image IsRead Shows read (rows t) key test row found
-        (finds.found t db row h (subst (λ p. TellsFirst sql p db row) same told)) is) l
+        (finds.found t db row h (subst (λ p. TellsFirst sql p db row) same (told finds.text))) is) l
 
     pub greatest_looks : {key : X → ℕ} → FindsGreatest sql params rows image key
         → LooksUp g (λ t found. IsGreatestAs Shows key (rows t) found) old new r
     greatest_looks {key} finds = retold g _ _ old new r
         (λ t found (row, (db, h, told), is). greatest_as image IsRead Shows read (rows t) key row found
-        (finds.found t db row h (subst (λ p. TellsFirst sql p db row) same told)) is) l
+        (finds.found t db row h (subst (λ p. TellsFirst sql p db row) same (told finds.text))) is) l
 
   pub any_looks : {test : X → Bool} (r : Result Bool TableFault)
       → LooksUp g (λ t any. (row : Option Row) × TellsRow sql given t row × (any ≡ is_some row)) old new r
       → Finds sql params rows image test → LooksUp g (λ t any. any ≡ list_any test (rows t)) old new r
   any_looks {test} r l finds = retold g _ _ old new r
       (λ t any (row, (db, h, told), is). is ∙ found_any _ test (rows t) row
-      (finds.found t db row h (subst (λ p. TellsFirst sql p db row) same told))) l
+      (finds.found t db row h (subst (λ p. TellsFirst sql p db row) same (told finds.text)))) l
+
+-- the same parameters
+pub looks_given : {S Y : Type 0} (g : Ghosts S) {sql : List ℕ} {IsRead : Row → Y → Type 0} {given params : Row}
+    {old new : BaseValue S} {r : Result (Option Y) TableFault} → given ≡ params
+    → LooksUp g (TellsAs IsRead sql given) old new r → LooksUp g (TellsAs IsRead sql params) old new r
+looks_given g {sql} {IsRead} {given} {params} {old} {new} {r} same l =
+    subst (λ p. LooksUp g (TellsAs IsRead sql p) old new r) same l
 
 -- what is read of rows is what they say
 pub all_read : {Y Z : Type 0} (view : Y → Z) (read : Row → Z) (rows : List Row) (found : List Y)
@@ -107,4 +109,4 @@ all_looks g {sql = sql} {rows = rows} {shown = shown} {number = number} {read = 
     retold g _ _ old new r
     (λ t found (told, (db, h, tells), are). subst (AreFoundAs shown number test (rows t))
     (sym (all_read view read told (items found) are))
-    (finds.found t db told h (subst (λ p. TellsRows sql p db told) same tells))) l
+    (finds.found t db told h (subst (λ p. TellsRows sql p db told) same (tells finds.text)))) l

@@ -1,19 +1,10 @@
 -- What stays free while our tables are made, one after the other.
-use Rattle.std.proofs.Common.{◌≡◌, ℕ, zero, suc, ◌+◌, Bool, true, false, not, ◌||◌, ◌&&◌, List}
-use Rattle.std.proofs.Common.{[], ◌∷◌, ◌++◌, codes, None, Some, Option, refl, sym, ap, ◌∙◌, subst, inl, inr, slice_get}
-use Rattle.std.proofs.Common.{arith}
-use Rattle.std.specs.Prelude.{is_some, option_and_then}
-use Rattle.std.specs.List.{AllByRecursion, position_from, list_any}
-use Rattle.std.proofs.lemmas.Bool.{cases_Bool}
-use Rattle.sqlite_schema.specs.declared.schema.Table.{Table}
-use Rattle.sqlite_schema.specs.declared.schema.Index.{Index}
-use Rattle.sqlite_schema.specs.declared.schema.Schema.{Schema}
-use Rattle.sqlite_schema.specs.Names.{same_name, table_named, index_named, view_named}
-use Rattle.sqlite_catalog.specs.Change.{created, is_used, automatics, next_tree}
-use Rattle.sqlite.specs.Does.{lacks_sequence}
-use Rattle.sqlite.specs.Rows.{sequence}
-use Rattle.sqlite_tied.specs.Compute.{everything}
-use Rattle.tables.specs.Schema.{placed, meta}
+use Rattle.tables.proofs.Words.{AllByRecursion, Bool, Index, List, None, Option, Schema, Some, Table, [], ap, arith}
+use Rattle.tables.proofs.Words.{automatics, cases_Bool, codes, created, everything, false, index_named, inl, inr}
+use Rattle.tables.proofs.Words.{is_some, is_used, lacks_sequence, list_any, next_tree, not, option_and_then}
+use Rattle.tables.proofs.Words.{position_from, refl, same_name, sequence, slice_get, subst, suc, sym, table_named, true}
+use Rattle.tables.proofs.Words.{view_named, zero, ℕ, ◌&&◌, ◌++◌, ◌+◌, ◌||◌, ◌∙◌, ◌∷◌, ◌≡◌}
+use Rattle.tables.specs.Schema.{meta, placed}
 
 none_placed : {X : Type 0} (p : X → Bool) (at : ℕ) (ys : List X) → list_any p ys ≡ false
     → is_some (position_from p at ys) ≡ false
@@ -51,7 +42,7 @@ either_false false false none = (refl, refl)
 either_false true b none = absurd (let e = none in cc)
 either_false false true none = absurd (let e = none in cc)
 
-three_false : (a b c : Bool) → a || b || c ≡ false → (a ≡ false) × (b ≡ false) × (c ≡ false)
+pub three_false : (a b c : Bool) → a || b || c ≡ false → (a ≡ false) × (b ≡ false) × (c ≡ false)
 three_false false false false none = (refl, refl, refl)
 three_false true b c none = absurd (let e = none in cc)
 three_false false true c none = absurd (let e = none in cc)

@@ -1,39 +1,27 @@
 -- The statements that add a row, over the schema.
-use Rattle.std.proofs.Common.{◌≡◌, ℕ, ℤ, pos, Bool, true, false, cond, List, [], ◌∷◌}
-use Rattle.std.proofs.Common.{None, Result, IsTrue, refl, arith}
-use Rattle.sqlite_value.specs.declared.value.Value.{Value}
-use Rattle.sqlite_value.specs.declared.value.Value.TheVariants.{Null, Int, Text, Blob}
-use Rattle.sqlite_value.specs.Order.{Row}
-use Rattle.sqlite_trees.specs.Tree.{Trees}
-use Rattle.sqlite_sql.specs.Ops.{unary}
-use Rattle.sqlite_sql.specs.Term.{Term, lit, col}
-use Rattle.sqlite_schema.specs.declared.schema.Kind.TheVariants.{Integer}
-use Rattle.sqlite_schema.specs.declared.command.Command.{Command}
-use Rattle.sqlite_schema.specs.declared.command.Command.TheVariants.{Insert}
-use Rattle.sqlite_schema.specs.declared.command.Source.TheVariants.{Values}
-use Rattle.sqlite_rules.specs.Cast.{cast}
-use Rattle.sqlite_rules.specs.declared.error.Rowids.TheVariants.{Chosen}
-use Rattle.sqlite_rules.specs.Edit.{edit_of, next_rowid}
-use Rattle.sqlite.specs.Effect.{value_rows}
-use Rattle.sqlite_tied.specs.Compute.{everything}
-use Rattle.sqlite.specs.declared.error.Error.{Error}
-use Rattle.sqlite.specs.Listing.{understood}
-use Rattle.sqlite.specs.State.{State, HasCleanDisk, Survives, ExecutesInside}
-use Rattle.sqlite.proofs.Callers.{IsPlain, command_of}
-use Rattle.tables.specs.Transaction.{Carries}
-use Rattle.tables.specs.Statements.{insert_stamp, insert_calibration, insert_hold, insert_deposit}
-use Rattle.tables.specs.Statements.{first_tally}
-use Rattle.tables.specs.Schema.{the_schema, stamp, calibration, hold, deposit, tally, placed}
-use Rattle.tables.specs.Tables.{Tables, StampRow, CalibrationRow, HoldRow, DepositRow, TallyRow}
-use Rattle.tables.specs.Tables.{with_calibration, with_hold, with_deposit}
-use Rattle.tables.specs.Layout.{stamp_cells, calibration_cells, hold_cells}
-use Rattle.tables.specs.Layout.{deposit_cells, tally_cells}
-use Rattle.tables.specs.Names as name
-use Rattle.tables.proofs.CarryLemmas.{carried, Makes}
-use Rattle.tables.proofs.FrameLemmas.{with_stamps, with_calibrations, with_holds, with_deposits}
-use Rattle.tables.proofs.FrameLemmas.{with_tallies}
+use Rattle.tables.proofs.Words.{Account, AllByRecursion, Blob, Bool, Chosen, Column, Group, Insert, Int, Integer, List}
+use Rattle.tables.proofs.Words.{None, Null, Option, Order, Reader, Reference, ReservationValue, Row, Some, Term, Text}
+use Rattle.tables.proofs.Words.{Trees, Value, Values, [], arith, cast, col, cond, day_of, edit_of, everything, false}
+use Rattle.tables.proofs.Words.{length, lit, next_rowid, pos, refl, slice_get, stamp_of, true, unary, understood}
+use Rattle.tables.proofs.Words.{value_rows, ℕ, ℤ, ◌/◌, ◌<◌, ◌^◌, ◌∷◌, ◌≡◌}
+use Rattle.tables.specs.Layout.{RowOf, cells_of, is_keyed, place_of, rows_of, tree_of}
+use Rattle.tables.specs.Names.{Name}
+use Rattle.tables.specs.Schema.{placed, table_of, the_schema, the_version}
+use Rattle.tables.specs.Tables.{CalibrationRow, DepositRow, HoldRow, InstalledRow, Tables, by_kind, name_of}
+use Rattle.tables.specs.Tables.{with_calibration, with_deposit, with_hold, with_identity}
+use Rattle.tables.specs.auxiliary.Steps.{with_first_tally, with_right_alone, with_stamp_alone}
+use Rattle.tables.specs.declared.calibrations.TheConstants.{INSERT_CALIBRATION}
+use Rattle.tables.specs.declared.deposits.TheConstants.{INSERT_DEPOSIT}
+use Rattle.tables.specs.declared.holds.TheConstants.{INSERT_HOLD}
+use Rattle.tables.specs.declared.identities.TheConstants.{INSERT_IDENTITY}
+use Rattle.tables.specs.declared.rights.TheConstants.{INSERT_GROUP_READER, INSERT_READER}
+use Rattle.tables.specs.declared.stamps.TheConstants.{INSERT_STAMP}
+use Rattle.tables.specs.declared.tallies.TheConstants.{FIRST_TALLY}
+use Rattle.tables.proofs.CarryLemmas.{Makes, Says, Steps, carried}
+use Rattle.tables.proofs.ChangeLemmas.{inserted, raw, raw_says}
+use Rattle.tables.proofs.FrameLemmas.{cells_some, changed, is_current, with_rows}
 use Rattle.tables.proofs.WriteLemmas.{IsIdle, inserts}
-use Rattle.tables.proofs.ChangeLemmas.{inserted}
+use Rattle.tables.specs.Names as name
 
 either : (b : Bool) (x : Value) → cond b x x ≡ x
 either true x = refl
@@ -50,220 +38,144 @@ cast_int n = either _ (Int n)
 pub idle : IsIdle the_schema
 idle = (tt, (tt, (tt, (tt, (((refl, refl), tt), (((refl, refl), tt), (tt, (((refl, refl), tt), (tt, tt)))))))))
 
--- ---- calibration
+-- the statement adds this row, whatever the table holds
+module _ (n : Name) {sql : List ℕ} (params : Row) (terms : List Term) (width : ℕ) (x : RowOf n)
+    (says : Says sql (Insert (place_of n) (Values terms width)))
+    (own : (xs : List (RowOf n)) (t : Tables) → rows_of the_version n (with_rows n xs t) ≡ xs)
+    (counts : (t : Tables) → AllByRecursion (λ row. row.count < 2 ^ 63) t.tallies
+    → AllByRecursion (λ row. row.count < 2 ^ 63) (with_rows n (x ∷ rows_of the_version n t) t).tallies) where
+  -- the row, under the rowid that comes next where its number isn't its key
+  abbrev added : Trees → Row
+  added db = raw (cells_of n) (cells_some n) (is_keyed n) (Int (next_rowid (db (tree_of n))), x)
 
-abbrev pub calibration_params : CalibrationRow → Row
-calibration_params r = Int (pos r.n) ∷ Int r.reading ∷ Int r.offset ∷ Int (pos r.uncertainty) ∷ []
+  module _ (called : List ℕ) (columns : List Column) (key : Option ℕ) (primary : List ℕ) (uniques : List (List ℕ))
+      (orders : List Order) (references : List Reference)
+      (listed : slice_get the_schema.tables (place_of n)
+      ≡ Some (placed (tree_of n) (table_of called columns key primary uniques orders references)))
+      (news : (db : Trees)
+      → (edit_of db (placed (tree_of n) (table_of called columns key primary uniques orders references)) [] Chosen 0
+      (value_rows params width (length terms / width) terms)).news
+      ≡ added db ∷ []) where
+    makes : Makes (Insert (place_of n) (Values terms width)) params
+        (λ t. with_rows n (x ∷ rows_of the_version n t) t)
+    makes limit text t db out h does =
+        let made = inserts limit params the_schema db text (place_of n) called columns key primary uniques orders
+        references (tree_of n) listed out terms width does in
+        let xs = rows_of the_version n t in
+        record {
+          schema = made.1;
+          holds = changed n db out.1.trees t h (x ∷ xs) (own (x ∷ xs) t) made.0.tables
+              (inserted (cells_of n) (cells_some n) (is_keyed n) xs x (db (tree_of n)) (out.1.trees (tree_of n)) _
+              (added db) (h.rows n (is_current n)) made.0.keyed made.0.fresh made.0.rows (news db)
+              (raw_says (cells_of n) (cells_some n) (is_keyed n) _)) (counts t h.counts);
+        }
 
-abbrev pub calibration_terms : List Term
-calibration_terms = col 0 0 ∷ lit Null ∷ col 0 1 ∷ col 0 2 ∷ col 0 3 ∷ []
+    pub adds : Steps sql params (λ t. with_rows n (x ∷ rows_of the_version n t) t)
+    adds = carried says params (λ old new text count w. w) _ makes
 
-calibration_news : (r : CalibrationRow) (db : Trees)
-    → (edit_of db (placed 2 calibration) [] Chosen 0 (value_rows (calibration_params r) 5 1 calibration_terms)).news
-    ≡ (calibration_cells r) ∷ []
-calibration_news r db = simp (cast_int, cast_null)
+-- ---- calibrations, deposits and identities, which have three columns besides their number
 
-abbrev pub calibration_insert : Command
-calibration_insert = Insert 2 (Values calibration_terms 5)
+abbrev four_terms : List Term
+four_terms = col 0 0 ∷ lit Null ∷ col 0 1 ∷ col 0 2 ∷ col 0 3 ∷ []
 
-pub calibration_makes : (r : CalibrationRow) → Makes calibration_insert (calibration_params r) (with_calibration r)
-calibration_makes r limit text t db out h does =
-    let made = inserts limit (calibration_params r) the_schema db text 2 _ _ _ _ _ _ _ 2 refl out calibration_terms
-    5 does in
-    record {
-      schema = made.1;
-      holds = with_calibrations db out.1.trees t h (r ∷ t.calibrations) made.0.tables
-          (inserted calibration_cells (λ x e. cc) true t.calibrations r (db 2) (out.1.trees 2) _ (calibration_cells r)
-          (h.rows name.Calibration refl) made.0.keyed made.0.fresh made.0.rows (calibration_news r db) refl);
-    }
-
-calibration_is : command_of (understood the_schema insert_calibration) ≡ calibration_insert
+says_calibration : Says INSERT_CALIBRATION.now (Insert (place_of name.Calibration) (Values four_terms 5))
 unfolding understood everything
-calibration_is = refl
+says_calibration = record { is = refl; plain = (refl, refl) }
 
-calibration_plain : IsPlain (understood the_schema insert_calibration)
+pub adds_calibration : (r : CalibrationRow)
+    → Steps INSERT_CALIBRATION.now (Int (pos r.n) ∷ Int r.reading ∷ Int r.offset ∷ Int (pos r.uncertainty) ∷ [])
+    (with_calibration r)
+adds_calibration r = adds name.Calibration _ four_terms 5 r says_calibration (λ xs t. refl) (λ t counts. counts)
+    _ _ _ _ _ _ _ refl (λ db. simp (cast_int, cast_null))
+
+says_deposit : Says INSERT_DEPOSIT.now (Insert (place_of name.Deposit) (Values four_terms 5))
 unfolding understood everything
-calibration_plain = (refl, refl)
+says_deposit = record { is = refl; plain = (refl, refl) }
 
-pub calibration_carried : (r : CalibrationRow) (old new : State) (result : Result ℕ Error) → Survives old new (λ _. ⊥)
-    → (given : Row) → given ≡ calibration_params r
-    → (HasCleanDisk new → IsTrue old.in_transaction → ExecutesInside 0 insert_calibration given old new result)
-    → Carries (with_calibration r) old new result
-calibration_carried r =
-    carried insert_calibration (calibration_params r) calibration_insert calibration_is calibration_plain
-    (λ old new text count w. w) (with_calibration r) (calibration_makes r)
+pub adds_deposit : (r : DepositRow)
+    → Steps INSERT_DEPOSIT.now (Int (pos r.serial) ∷ Text r.owner ∷ Text r.reference ∷ Blob r.bytes ∷ [])
+    (with_deposit r)
+adds_deposit r = adds name.Deposit _ four_terms 5 r says_deposit (λ xs t. refl) (λ t counts. counts)
+    _ _ _ _ _ _ _ refl (λ db. simp (cast_int, cast_null))
 
--- ---- hold
+says_identity : Says INSERT_IDENTITY.now (Insert (place_of name.Identity) (Values four_terms 5))
+unfolding understood everything
+says_identity = record { is = refl; plain = (refl, refl) }
 
-abbrev pub hold_params : HoldRow → Row
-hold_params r = Int (pos r.n) ∷ Int r.from ∷ Int r.to ∷ []
+pub adds_identity : (r : InstalledRow)
+    → Steps INSERT_IDENTITY.now (Int (pos r.number) ∷ Int (pos r.after_serial) ∷ Blob r.certificate ∷ Blob r.chain ∷ [])
+    (with_identity r)
+adds_identity r = adds name.Identity _ four_terms 5 r says_identity (λ xs t. refl) (λ t counts. counts)
+    _ _ _ _ _ _ _ refl (λ db. simp (cast_int, cast_null))
 
-abbrev pub hold_terms : List Term
+-- ---- holds
+
+abbrev hold_terms : List Term
 hold_terms = col 0 0 ∷ lit Null ∷ col 0 1 ∷ col 0 2 ∷ []
 
-hold_news : (r : HoldRow) (db : Trees)
-    → (edit_of db (placed 3 hold) [] Chosen 0 (value_rows (hold_params r) 4 1 hold_terms)).news ≡ (hold_cells r) ∷ []
-hold_news r db = simp (cast_int, cast_null)
-
-abbrev pub hold_insert : Command
-hold_insert = Insert 3 (Values hold_terms 4)
-
-pub hold_makes : (r : HoldRow) → Makes hold_insert (hold_params r) (with_hold r)
-hold_makes r limit text t db out h does =
-    let made = inserts limit (hold_params r) the_schema db text 3 _ _ _ _ _ _ _ 3 refl out hold_terms 4 does in
-    record {
-      schema = made.1;
-      holds = with_holds db out.1.trees t h (r ∷ t.holds) made.0.tables
-          (inserted hold_cells (λ x e. cc) true t.holds r (db 3) (out.1.trees 3) _ (hold_cells r) (h.rows name.Hold refl) made.0.keyed
-          made.0.fresh made.0.rows (hold_news r db) refl);
-    }
-
-hold_is : command_of (understood the_schema insert_hold) ≡ hold_insert
+says_hold : Says INSERT_HOLD.now (Insert (place_of name.Hold) (Values hold_terms 4))
 unfolding understood everything
-hold_is = refl
+says_hold = record { is = refl; plain = (refl, refl) }
 
-hold_plain : IsPlain (understood the_schema insert_hold)
-unfolding understood everything
-hold_plain = (refl, refl)
+pub adds_hold : (r : HoldRow) → Steps INSERT_HOLD.now (Int (pos r.n) ∷ Int r.from ∷ Int r.to ∷ []) (with_hold r)
+adds_hold r = adds name.Hold _ hold_terms 4 r says_hold (λ xs t. refl) (λ t counts. counts)
+    _ _ _ _ _ _ _ refl (λ db. simp (cast_int, cast_null))
 
-pub hold_carried : (r : HoldRow) (old new : State) (result : Result ℕ Error) → Survives old new (λ _. ⊥) → (given : Row)
-    → given ≡ hold_params r
-    → (HasCleanDisk new → IsTrue old.in_transaction → ExecutesInside 0 insert_hold given old new result)
-    → Carries (with_hold r) old new result
-hold_carried r = carried insert_hold (hold_params r) hold_insert hold_is hold_plain (λ old new text count w. w)
-    (with_hold r) (hold_makes r)
+-- ---- stamps without a token
 
--- ---- deposit
-
-abbrev pub deposit_params : DepositRow → Row
-deposit_params r = Int (pos r.serial) ∷ Text r.owner ∷ Text r.reference ∷ Blob r.bytes ∷ []
-
-abbrev pub deposit_terms : List Term
-deposit_terms = col 0 0 ∷ lit Null ∷ col 0 1 ∷ col 0 2 ∷ col 0 3 ∷ []
-
-deposit_news : (r : DepositRow) (db : Trees)
-    → (edit_of db (placed 4 deposit) [] Chosen 0 (value_rows (deposit_params r) 5 1 deposit_terms)).news
-    ≡ (deposit_cells r) ∷ []
-deposit_news r db = simp (cast_int, cast_null)
-
-abbrev pub deposit_insert : Command
-deposit_insert = Insert 4 (Values deposit_terms 5)
-
-pub deposit_makes : (r : DepositRow) → Makes deposit_insert (deposit_params r) (with_deposit r)
-deposit_makes r limit text t db out h does =
-    let made = inserts limit (deposit_params r) the_schema db text 4 _ _ _ _ _ _ _ 4 refl out deposit_terms 5
-    does in
-    record {
-      schema = made.1;
-      holds = with_deposits db out.1.trees t h (r ∷ t.deposits) made.0.tables
-          (inserted deposit_cells (λ x e. cc) true t.deposits r (db 4) (out.1.trees 4) _ (deposit_cells r) (h.rows name.Deposit refl)
-          made.0.keyed made.0.fresh made.0.rows (deposit_news r db) refl);
-    }
-
-deposit_is : command_of (understood the_schema insert_deposit) ≡ deposit_insert
-unfolding understood everything
-deposit_is = refl
-
-deposit_plain : IsPlain (understood the_schema insert_deposit)
-unfolding understood everything
-deposit_plain = (refl, refl)
-
-pub deposit_carried : (r : DepositRow) (old new : State) (result : Result ℕ Error) → Survives old new (λ _. ⊥)
-    → (given : Row) → given ≡ deposit_params r
-    → (HasCleanDisk new → IsTrue old.in_transaction → ExecutesInside 0 insert_deposit given old new result)
-    → Carries (with_deposit r) old new result
-deposit_carried r = carried insert_deposit (deposit_params r) deposit_insert deposit_is deposit_plain
-    (λ old new text count w. w) (with_deposit r) (deposit_makes r)
-
--- ---- stamp
-
-abbrev pub unsealed : StampRow → StampRow
-unsealed r = record r { token = None }
-
-abbrev pub stamp_params : StampRow → Row
-stamp_params r = Int (pos r.serial) ∷ Text r.account ∷ Int (pos r.day) ∷ Int (pos r.gen_time) ∷ Blob r.policy
-    ∷ Blob r.algorithm ∷ Blob r.digest ∷ Blob r.request ∷ Blob r.tst ∷ []
-
-abbrev pub stamp_terms : List Term
+abbrev stamp_terms : List Term
 stamp_terms = col 0 0 ∷ lit Null ∷ col 0 1 ∷ col 0 2 ∷ col 0 3 ∷ col 0 4 ∷ col 0 5 ∷ col 0 6 ∷ col 0 7 ∷ col 0 8
     ∷ lit Null ∷ []
 
-stamp_news : (r : StampRow) (db : Trees)
-    → (edit_of db (placed 1 stamp) [] Chosen 0 (value_rows (stamp_params r) 11 1 stamp_terms)).news
-    ≡ (stamp_cells (unsealed r)) ∷ []
-stamp_news r db = simp (cast_int, cast_null)
-
-abbrev pub stamp_insert : Command
-stamp_insert = Insert 1 (Values stamp_terms 11)
-
-pub stamp_makes : (r : StampRow)
-    → Makes stamp_insert (stamp_params r) (λ (t : Tables). record t { stamps = unsealed r ∷ t.stamps })
-stamp_makes r limit text t db out h does =
-    let made = inserts limit (stamp_params r) the_schema db text 1 _ _ _ _ _ _ _ 1 refl out stamp_terms 11 does in
-    record {
-      schema = made.1;
-      holds = with_stamps db out.1.trees t h ((unsealed r) ∷ t.stamps) made.0.tables
-          (inserted stamp_cells (λ x e. cc) true t.stamps (unsealed r) (db 1) (out.1.trees 1) _
-          (stamp_cells (unsealed r)) (h.rows name.Stamp refl) made.0.keyed made.0.fresh made.0.rows (stamp_news r db) refl);
-    }
-
-stamp_is : command_of (understood the_schema insert_stamp) ≡ stamp_insert
+says_stamp : Says INSERT_STAMP.now (Insert (place_of name.Stamp) (Values stamp_terms 11))
 unfolding understood everything
-stamp_is = refl
+says_stamp = record { is = refl; plain = (refl, refl) }
 
-stamp_plain : IsPlain (understood the_schema insert_stamp)
-unfolding understood everything
-stamp_plain = (refl, refl)
+pub adds_stamp : (r : ReservationValue)
+    → Steps INSERT_STAMP.now (Int (pos r.serial) ∷ Text r.account ∷ Int (pos (day_of r.gen_time)) ∷ Int (pos r.gen_time)
+    ∷ Blob r.policy ∷ Blob r.algorithm ∷ Blob r.digest ∷ Blob r.request ∷ Blob r.tst ∷ [])
+    (with_stamp_alone (stamp_of None r))
+adds_stamp r = adds name.Stamp _ stamp_terms 11 (stamp_of None r) says_stamp (λ xs t. refl) (λ t counts. counts)
+    _ _ _ _ _ _ _ refl (λ db. simp (cast_int, cast_null))
 
-pub stamp_carried : (r : StampRow) (old new : State) (result : Result ℕ Error) → Survives old new (λ _. ⊥)
-    → (given : Row) → given ≡ stamp_params r
-    → (HasCleanDisk new → IsTrue old.in_transaction → ExecutesInside 0 insert_stamp given old new result)
-    → Carries (λ (t : Tables). record t { stamps = unsealed r ∷ t.stamps }) old new result
-stamp_carried r = carried insert_stamp (stamp_params r) stamp_insert stamp_is stamp_plain (λ old new text count w. w)
-    (λ (t : Tables). record t { stamps = unsealed r ∷ t.stamps }) (stamp_makes r)
+-- ---- the first tally of an account and a day
 
--- ---- tally
-
-abbrev pub first_of : TallyRow → TallyRow
-first_of r = record r { count = 1 }
-
-abbrev pub tally_params : TallyRow → Row
-tally_params r = Text r.account ∷ Int (pos r.day) ∷ []
-
-abbrev pub tally_terms : List Term
+abbrev tally_terms : List Term
 tally_terms = lit Null ∷ col 0 0 ∷ col 0 1 ∷ lit (Int (pos 1)) ∷ []
 
-tally_news : (r : TallyRow) (db : Trees)
-    → (edit_of db (placed 8 tally) [] Chosen 0 (value_rows (tally_params r) 4 1 tally_terms)).news
-    ≡ (Int (next_rowid (db 8)) ∷ tally_cells (first_of r)) ∷ []
-tally_news r db = simp (cast_int, cast_null)
-
-abbrev pub tally_insert : Command
-tally_insert = Insert 6 (Values tally_terms 4)
-
-pub tally_makes : (r : TallyRow)
-    → Makes tally_insert (tally_params r) (λ (t : Tables). record t { tallies = first_of r ∷ t.tallies })
-tally_makes r limit text t db out h does =
-    let made = inserts limit (tally_params r) the_schema db text 6 _ _ _ _ _ _ _ 8 refl out tally_terms 4 does in
-    record {
-      schema = made.1;
-      holds = with_tallies db out.1.trees t h ((first_of r) ∷ t.tallies) made.0.tables
-          (inserted tally_cells (λ x e. cc) false t.tallies (first_of r) (db 8) (out.1.trees 8) _
-          (Int (next_rowid (db 8)) ∷ tally_cells (first_of r)) (h.rows name.Tally refl) made.0.keyed made.0.fresh made.0.rows
-          (tally_news r db) refl) (omega arith, h.counts);
-    }
-
-tally_is : command_of (understood the_schema first_tally) ≡ tally_insert
+says_tally : Says FIRST_TALLY.now (Insert (place_of name.Tally) (Values tally_terms 4))
 unfolding understood everything
-tally_is = refl
+says_tally = record { is = refl; plain = (refl, refl) }
 
-tally_plain : IsPlain (understood the_schema first_tally)
+pub adds_tally : (account : List ℕ) (day : ℕ)
+    → Steps FIRST_TALLY.now (Text account ∷ Int (pos day) ∷ []) (with_first_tally account day)
+adds_tally account day =
+    adds name.Tally _ tally_terms 4 (record { account = account; day = day; count = 1 }) says_tally (λ xs t. refl)
+    (λ t counts. (omega arith, counts)) _ _ _ _ _ _ _ refl (λ db. simp (cast_int, cast_null))
+
+-- ---- the right of a name
+
+-- the table of the rights of such readers
+abbrev pub rights_in : Reader → Name
+rights_in reader = by_kind reader name.Reader name.GroupReader
+
+abbrev right_terms : List Term
+right_terms = lit Null ∷ col 0 0 ∷ col 0 1 ∷ []
+
+abbrev insert_right : Reader → List ℕ
+insert_right reader = by_kind reader INSERT_READER.now INSERT_GROUP_READER.now
+
+says_right : (reader : Reader)
+    → Says (insert_right reader) (Insert (place_of (rights_in reader)) (Values right_terms 3))
 unfolding understood everything
-tally_plain = (refl, refl)
+says_right (Account whom) = record { is = refl; plain = (refl, refl) }
+says_right (Group whom) = record { is = refl; plain = (refl, refl) }
 
-pub tally_carried : (r : TallyRow) (old new : State) (result : Result ℕ Error) → Survives old new (λ _. ⊥)
-    → (given : Row) → given ≡ tally_params r
-    → (HasCleanDisk new → IsTrue old.in_transaction → ExecutesInside 0 first_tally given old new result)
-    → Carries (λ (t : Tables). record t { tallies = first_of r ∷ t.tallies }) old new result
-tally_carried r = carried first_tally (tally_params r) tally_insert tally_is tally_plain (λ old new text count w. w)
-    (λ (t : Tables). record t { tallies = first_of r ∷ t.tallies }) (tally_makes r)
+pub adds_right : (reader : Reader) (serial : ℕ)
+    → Steps (insert_right reader) (Int (pos serial) ∷ Text (name_of reader) ∷ []) (with_right_alone serial reader)
+adds_right (Account whom) serial =
+    adds name.Reader _ right_terms 3 (record { serial = serial; name = whom }) (says_right (Account whom))
+    (λ xs t. refl) (λ t counts. counts) _ _ _ _ _ _ _ refl (λ db. simp (cast_int, cast_null))
+adds_right (Group whom) serial =
+    adds name.GroupReader _ right_terms 3 (record { serial = serial; name = whom }) (says_right (Group whom))
+    (λ xs t. refl) (λ t counts. counts) _ _ _ _ _ _ _ refl (λ db. simp (cast_int, cast_null))

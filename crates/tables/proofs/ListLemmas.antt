@@ -1,12 +1,9 @@
 -- Lists: a test that splits a list, an image of one, and what permutations keep.
-use Rattle.std.proofs.Common.{◌≡◌, ◌≢◌, ℕ, zero, suc, ◌<◌, arith, length, get_or, Bool, true, false, not, cond, ◌||◌}
-use Rattle.std.proofs.Common.{List, [], ◌∷◌, ◌++◌}
-use Rattle.std.proofs.Common.{map, filter, flat_map, refl, sym, ap, inl, inr, IsPermutation}
-use Rattle.std.specs.List.{list_any}
-use Rattle.std.proofs.lemmas.List.Sorted.{IsPermutation-refl, IsPermutation-sym, IsPermutation-cons}
-use Rattle.std.proofs.lemmas.List.Sorted.{IsPermutation-trans, IsPermutation-middle, Contains-permutation}
-use Rattle.sqlite_rules.specs.Lists.{Has}
-use Rattle.sqlite_rules.proofs.ListLemmas.{has_contained, contains_had}
+use Rattle.tables.proofs.Words.{Bool, Contains-permutation, Has, IsPermutation, IsPermutation-cons}
+use Rattle.tables.proofs.Words.{IsPermutation-middle, IsPermutation-refl, IsPermutation-sym, IsPermutation-trans, List}
+use Rattle.tables.proofs.Words.{[], ap, arith, cond, contains_had, false, filter, flat_map, get_or, has_contained, inl}
+use Rattle.tables.proofs.Words.{inr, length, list_any, map, not, refl, suc, sym, true, zero, ℕ, ◌++◌, ◌<◌, ◌||◌, ◌∷◌}
+use Rattle.tables.proofs.Words.{◌≡◌, ◌≢◌}
 
 pub same_truth : (a b : Bool) → (a ≡ true → b ≡ true) → (b ≡ true → a ≡ true) → a ≡ b
 same_truth true b on back = sym (on refl)

@@ -1,67 +1,53 @@
 -- What a query tells of one table: a row that passes its tests, or of these the first in the order of a key.
-use Rattle.std.proofs.Common.{◌≡◌, ◌≢◌, ◌⊎◌, ℕ, pos, ◌<◌, ◌≤◌, ◌&&◌, Bool, true, false, List, [], ◌∷◌, map, filter}
-use Rattle.std.proofs.Common.{Option}
-use Rattle.std.proofs.Common.{None, Some, length, get_or, refl, sym, ap, ap₂, ◌∙◌, subst, subst₂, inl, inr, arith}
-use Rattle.std.proofs.Common.{Contains}
-use Rattle.std.proofs.Common.{IsPermutation, is_lt, int_cmp, Less, Equal, Greater, Ordering}
-use Rattle.std.specs.Ordering.{ordering_then}
 use Rattle.std.specs.List.{slice_get}
-use Rattle.std.specs.Prelude.{IsSorted}
 use Rattle.std.specs.List.Sorted.{IsNonDecreasingBy}
-use Rattle.std.proofs.lemmas.List.{length-map, get_or-map}
-use Rattle.std.proofs.lemmas.List.Sorted.{sorted_far, IsPermutation-sym, IsPermutation-map}
-use Rattle.std.proofs.lemmas.List.Sorted.{IsNonDecreasingBy-from_default}
 use Rattle.std.proofs.lemmas.List.MinMax.{ranks_by}
-use Rattle.sqlite_value.specs.declared.value.Value.{Value}
-use Rattle.sqlite_value.specs.declared.value.Value.TheVariants.{Int}
-use Rattle.sqlite_value.specs.declared.keys.Key.{Key}
-use Rattle.sqlite_value.specs.declared.keys.Collation.TheVariants.{Binary}
-use Rattle.sqlite_value.specs.Order.{Row, value_cmp}
-use Rattle.sqlite_value.proofs.OrderLemmas.{value_cmp-Int}
-use Rattle.sqlite_trees.specs.Tree.{Trees}
-use Rattle.sqlite_trees.proofs.ListLemmas.{map-map}
-use Rattle.sqlite_sql.specs.Term.{Term, lit, eval_all}
-use Rattle.sqlite_sql.specs.Query.{Query, Output, output, output_cmp, page}
 use Rattle.sqlite_sql.proofs.QueryLemmas.{output_cmp_total}
-use Rattle.sqlite_schema.specs.declared.command.Command.{Command}
-use Rattle.sqlite_schema.specs.declared.command.Command.TheVariants.{Select}
-use Rattle.sqlite_rules.proofs.ListLemmas.{has_contained, contains_had, has_filtered, has_kept}
-use Rattle.sqlite.specs.Effect.{Reads}
-use Rattle.sqlite.specs.Listing.{understood}
-use Rattle.sqlite.proofs.Callers.{command_of}
-use Rattle.tables.specs.QueryAnswers.{IsQueryText, TellsFirst, TellsRows}
-use Rattle.tables.specs.Found.{IsFoundAs, IsLeastAs, IsGreatestAs, AreFoundAs}
-use Rattle.tables.specs.Layout.{Holds, RowOf, cells_of, is_keyed, tree_of, rows_of}
+use Rattle.tables.proofs.Words.{Binary, Bool, Compare, Contains, Eq, Equal, Greater, Int}
+use Rattle.tables.proofs.Words.{IsNonDecreasingBy-from_default, IsPermutation, IsPermutation-map, IsPermutation-sym}
+use Rattle.tables.proofs.Words.{IsSorted, Key, Less, List, None, Option, Ordering, Output, Query, Reads, Row, Select}
+use Rattle.tables.proofs.Words.{Some, Term, Trees, Value, [], ap, ap₂, arith, cases_Bool, col, command_of, contains_had}
+use Rattle.tables.proofs.Words.{eval_all, false, filter, get_or, get_or-map, has_contained, has_filtered, has_kept, inl}
+use Rattle.tables.proofs.Words.{inr, int_cmp, is_lt, length, length-map, lit, map, map-map, op2, ordering_then, output}
+use Rattle.tables.proofs.Words.{output_cmp, page, pos, refl, sorted_far, subst, subst₂, sym, true, understood}
+use Rattle.tables.proofs.Words.{value_cmp, value_cmp-Int, ℕ, ◌&&◌, ◌<◌, ◌∙◌, ◌∷◌, ◌≡◌, ◌≤◌}
+use Rattle.tables.specs.Found.{AreFoundAs, IsFoundAs, IsGreatestAs, IsLeastAs}
+use Rattle.tables.specs.Layout.{Holds, RowOf, cells_of, is_keyed, rows_of, tree_of}
 use Rattle.tables.specs.Names.{Name}
-use Rattle.tables.specs.Names as name
+use Rattle.tables.specs.QueryAnswers.{IsQueryText, TellsFirst, TellsRows}
 use Rattle.tables.specs.Schema.{the_schema, the_version}
 use Rattle.tables.specs.Tables.{Tables}
-use Rattle.tables.proofs.ChangeLemmas.{raw, found_are}
-use Rattle.tables.proofs.FrameLemmas.{is_current}
-use Rattle.tables.proofs.ListLemmas.{has_permutation, has_image, image_has, map_same, any_default}
-use Rattle.tables.proofs.ReadLemmas.{program_of, query_of, no_limit, passes, shows, answered, ordered_by}
+use Rattle.tables.proofs.ChangeLemmas.{found_are, raw}
+use Rattle.tables.proofs.FrameLemmas.{cells_some, is_current}
+use Rattle.tables.proofs.ListLemmas.{any_default, has_image, has_permutation, image_has, map_same}
+use Rattle.tables.proofs.ReadLemmas.{answered, no_limit, ordered_by, passes, program_of, query_of, shows}
 
--- a query, as our schema has its text
-pub record Asks (sql : List ℕ) (command : Command) : Type 0 where
-  pub is : command_of (understood the_schema sql) ≡ command
+-- a query over one table, as our schema has its text, with the names of what it shows
+pub record Asks (sql : List ℕ) (n : Name) (tests project : List Term) (names : List (List ℕ))
+    (order : List (Term × Key)) (limit : Term) : Type 0 where
+  pub is : command_of (understood the_schema sql) ≡ Select (program_of (tree_of n) tests project order limit) names
   pub text : IsQueryText sql
 
 -- what the first row of its answer shows of the rows of a table
 module _ {X : Type 0} (sql : List ℕ) (params : Row) (rows : Tables → List X) (image : X → Row) where
   pub record Finds (test : X → Bool) : Type 0 where
+    pub text : IsQueryText sql
     pub found : (t : Tables) (db : Trees) (row : Option Row) → Holds t db → TellsFirst sql params db row
         → IsFoundAs (λ x r. r ≡ image x) test (rows t) row
 
   pub record FindsLeast (test : X → Bool) (key : X → ℕ) : Type 0 where
+    pub text : IsQueryText sql
     pub found : (t : Tables) (db : Trees) (row : Option Row) → Holds t db → TellsFirst sql params db row
         → IsLeastAs (λ x r. r ≡ image x) key test (rows t) row
 
   pub record FindsGreatest (key : X → ℕ) : Type 0 where
+    pub text : IsQueryText sql
     pub found : (t : Tables) (db : Trees) (row : Option Row) → Holds t db → TellsFirst sql params db row
         → IsGreatestAs (λ x r. r ≡ image x) key (rows t) row
 
   -- what all its rows show
   pub record FindsAll {Y : Type 0} (shown : X → Y) (number : Y → ℕ) (read : Row → Y) (test : X → Bool) : Type 0 where
+    pub text : IsQueryText sql
     pub found : (t : Tables) (db : Trees) (shows : List Row) → Holds t db → TellsRows sql params db shows
         → AreFoundAs shown number test (rows t) (map read shows)
 
@@ -69,16 +55,12 @@ pub and_true : (b : Bool) → (b && true) ≡ b
 and_true true = refl
 and_true false = refl
 
-true_or_not : (b : Bool) → (b ≡ true) ⊎ (b ≡ false)
-true_or_not true = inl refl
-true_or_not false = inr refl
-
 -- the rows that pass, in some order: the first is one of them, and where there is none no row passes
 first_found : {X : Type 0} (image : X → Row) (test : X → Bool) (xs : List X) (rows : List Row)
     → IsPermutation (map image (filter test xs)) rows
     → IsFoundAs (λ x r. r ≡ image x) test xs (slice_get rows 0)
 first_found image test xs [] same = λ x m.
-    elim (true_or_not (test x)) [
+    elim (cases_Bool (test x)) [
       | inl t ↦ absurd (has_permutation _ [] (image x) same
           (has_image image (filter test xs) x (has_kept test xs x (has_contained xs x m) t)))
       | inr f ↦ f
@@ -88,16 +70,9 @@ first_found image test xs (r ∷ rows) same =
     let kept = has_filtered test xs found.0 found.1 in
     (found.0, contains_had xs found.0 kept.0, kept.1, found.2)
 
-pub cells_some : (n : Name) (x : RowOf n) → cells_of n x ≢ []
-cells_some name.Meta x e = cc
-cells_some name.Stamp x e = cc
-cells_some name.Calibration x e = cc
-cells_some name.Hold x e = cc
-cells_some name.Deposit x e = cc
-cells_some name.Reader x e = cc
-cells_some name.Tally x e = cc
-cells_some name.GroupReader x e = cc
-cells_some name.Identity x e = cc
+-- a column is what a parameter is
+abbrev pub equals : ℕ → ℕ → Term
+equals column parameter = op2 (Compare Eq Binary) (col 1 column) (col 0 parameter)
 
 abbrev pub one : Term
 one = lit (Int (pos 1))
@@ -124,10 +99,10 @@ module _ (n : Name) (params : Row) (tests project : List Term) (test : RowOf n �
     (agree : (y : Value × RowOf n) → passes tests params (raw (cells_of n) (cells_some n) (is_keyed n) y) ≡ test y.1)
     (each : (y : Value × RowOf n) → shows project params (raw (cells_of n) (cells_some n) (is_keyed n) y) ≡ image y.1)
   where
-    pub finds : (sql : List ℕ) (names : List (List ℕ))
-        → Asks sql (Select (program_of (tree_of n) tests project [] no_limit) names)
+    pub finds : {sql : List ℕ} {names : List (List ℕ)} → Asks sql n tests project names [] no_limit
         → Finds sql params (rows_of the_version n) image test
-    finds sql names asks = record {
+    finds asks = record {
+      text = asks.text;
       found = λ t db row h told.
           let reads = subst (λ k. Reads k (record { schema = the_schema; trees = db }) params told.0) asks.is told.1 in
           let typed = found_are (cells_of n) (cells_some n) (is_keyed n) (rows_of the_version n t) (db (tree_of n))
@@ -165,7 +140,7 @@ module _ (n : Name) (params : Row) (tests project : List Term) (test : RowOf n �
               → IsSorted (output_cmp (its_query order)) ordered
               → IsFirst xs (slice_get (page (its_query order) params (map (λ o. o.1) ordered)) 0)
           go xs [] same sorted = λ x m.
-              elim (true_or_not (test x)) [
+              elim (cases_Bool (test x)) [
                 | inl t ↦ absurd (has_permutation _ [] (out_of x) same
                     (has_image out_of (filter test xs) x (has_kept test xs x (has_contained xs x m) t)))
                 | inr f ↦ f
@@ -188,11 +163,10 @@ module _ (n : Name) (params : Row) (tests project : List Term) (test : RowOf n �
                 ap (λ o. o.1) found.2,
               )
 
-          first : (sql : List ℕ) (names : List (List ℕ))
-              → Asks sql (Select (program_of (tree_of n) tests project ((place, order) ∷ []) one) names)
+          first : {sql : List ℕ} {names : List (List ℕ)} → Asks sql n tests project names ((place, order) ∷ []) one
               → (t : Tables) (db : Trees) (row : Option Row) → Holds t db → TellsFirst sql params db row
               → IsFirst (rows_of the_version n t) row
-          first sql names asks t db row h told =
+          first asks t db row h told =
               let xs = rows_of the_version n t in
               let reads = subst (λ k. Reads k (record { schema = the_schema; trees = db }) params told.0) asks.is told.1 in
               let by = ordered_by the_schema db params (tree_of n) tests project ((place, order) ∷ []) one told.0 reads in
@@ -202,12 +176,12 @@ module _ (n : Name) (params : Row) (tests project : List Term) (test : RowOf n �
               subst (IsFirst xs) told.2
               (subst (λ rs. IsFirst xs (slice_get rs 0)) (sym by.shown) (go xs by.ordered typed by.sorted))
 
-        pub least : (sql : List ℕ) (names : List (List ℕ))
-            → Asks sql (Select (program_of (tree_of n) tests project ((place, rising) ∷ []) one) names)
+        pub least : {sql : List ℕ} {names : List (List ℕ)} → Asks sql n tests project names ((place, rising) ∷ []) one
             → FindsLeast sql params (rows_of the_version n) image test key
-        least sql names asks = record {
+        least asks = record {
+          text = asks.text;
           found = λ t db row h told. as_least _ row
-              (first rising (λ a b. a ≤ b) (λ x y e. not_less (key y) (key x) e) sql names asks t db row h told);
+              (first rising (λ a b. a ≤ b) (λ x y e. not_less (key y) (key x) e) asks t db row h told);
         }
           where
             as_least : (xs : List (RowOf n)) (row : Option Row) → IsFirst rising (λ a b. a ≤ b)
@@ -215,12 +189,13 @@ module _ (n : Name) (params : Row) (tests project : List Term) (test : RowOf n �
             as_least xs None h = h
             as_least xs (Some r) h = h
 
-        pub greatest : (sql : List ℕ) (names : List (List ℕ)) → ((x : RowOf n) → test x ≡ true)
-            → Asks sql (Select (program_of (tree_of n) tests project ((place, falling) ∷ []) one) names)
+        pub greatest : {sql : List ℕ} {names : List (List ℕ)} → ((x : RowOf n) → test x ≡ true)
+            → Asks sql n tests project names ((place, falling) ∷ []) one
             → FindsGreatest sql params (rows_of the_version n) image key
-        greatest sql names all asks = record {
+        greatest all asks = record {
+          text = asks.text;
           found = λ t db row h told. as_greatest _ row
-              (first falling (λ a b. b ≤ a) (λ x y e. not_less (key x) (key y) e) sql names asks t db row h told);
+              (first falling (λ a b. b ≤ a) (λ x y e. not_less (key x) (key y) e) asks t db row h told);
         }
           where
             as_greatest : (xs : List (RowOf n)) (row : Option Row) → IsFirst falling (λ a b. b ≤ a)
@@ -273,10 +248,11 @@ module _ (n : Name) (params : Row) (tests project : List Term) (test : RowOf n �
                         ap number (get_or-map read_out (p ∷ ps) k p (read_out p) inside ∙ ap read_out x.1
                         ∙ reads x.0) ∙ numbers x.0
 
-          pub all : (sql : List ℕ) (names : List (List ℕ))
-              → Asks sql (Select (program_of (tree_of n) tests project ((place, rising) ∷ []) no_limit) names)
+          pub all : {sql : List ℕ} {names : List (List ℕ)}
+              → Asks sql n tests project names ((place, rising) ∷ []) no_limit
               → FindsAll sql params (rows_of the_version n) image shown number read test
-          all sql names asks = record {
+          all asks = record {
+            text = asks.text;
             found = λ t db rows h told.
                 let xs = rows_of the_version n t in
                 let reads_so = subst (λ k. Reads k (record { schema = the_schema; trees = db }) params rows) asks.is

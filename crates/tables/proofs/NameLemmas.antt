@@ -1,36 +1,21 @@
 -- The names that a database uses, before tables are made and after.
-use Rattle.std.proofs.Common.{◌≡◌, ◌⊎◌, ℕ, ◌+◌, Bool, true, false, ◌||◌, if◌then◌else◌, List, [], ◌∷◌, ◌++◌}
-use Rattle.std.proofs.Common.{None, Some, Option, Result, Ok, Err, refl, sym, ap, ◌∙◌, subst, inl, inr}
-use Rattle.std.specs.Prelude.{is_some}
-use Rattle.std.specs.Option.{option_or}
-use Rattle.std.specs.List.{AllByRecursion, position_from}
-use Rattle.sqlite_trees.proofs.ListLemmas.{all_weaker}
-use Rattle.std.proofs.lemmas.Bool.{cases_Bool}
-use Rattle.sqlite_schema.specs.declared.schema.Table.{Table}
-use Rattle.sqlite_catalog.specs.Change.{created, is_used}
-use Rattle.sqlite_resolve.specs.Compile.{table_defined_by}
-use Rattle.sqlite.specs.Does.{Tally, MakesTable, MakesSequence, lacks_sequence, sequence_text}
-use Rattle.sqlite.specs.Effect.{Database}
-use Rattle.sqlite.specs.State.{State, ExecutesIn}
-use Rattle.sqlite.proofs.Callers.{command_of, statement_of}
-use Rattle.sqlite_schema.specs.declared.schema.Schema.{Schema}
-use Rattle.sqlite_schema.specs.declared.command.Command.{Command}
-use Rattle.sqlite_schema.specs.declared.command.Command.TheVariants.{CreateTable, Nothing}
-use Rattle.sqlite_schema.specs.declared.command.Returning.{Returning}
-use Rattle.sqlite_schema.specs.Names.{table_named, index_named, view_named}
-use Rattle.sqlite_resolve.specs.declared.compiled.Compiled.{Compiled}
-use Rattle.sqlite_resolve.specs.declared.error.CompileError.{CompileError}
-use Rattle.sqlite_resolve.specs.declared.error.CompileError.TheVariants.{Exists, Unsupported}
-use Rattle.sqlite_resolve.specs.Lowering.{Checked, and_then}
-use Rattle.sqlite_resolve.specs.Compile.{is_attached, compiled}
-use Rattle.sqlite.specs.Listing.{understood, listing_schema, misses_table, if_select}
 use Rattle.sqlite.specs.Given.{IsPlain}
-use Rattle.tables.specs.Creation.{Making}
-use Rattle.tables.specs.Schema.{no_schema}
+use Rattle.tables.proofs.Words.{AllByRecursion, Bool, Checked, Command, CompileError, Compiled, CreateTable, Database}
+use Rattle.tables.proofs.Words.{Err, ExecutesIn, Exists, Ghosts, Held, List, MakesSequence, MakesTable, None, Nothing}
+use Rattle.tables.proofs.Words.{Ok, Option, Result, Returning, Schema, Some, State, Table, Tally, Unsupported, []}
+use Rattle.tables.proofs.Words.{all_weaker, and_then, ap, cases_Bool, command_of, compiled, created, everything, false}
+use Rattle.tables.proofs.Words.{if_select, if◌then◌else◌, index_named, inl, inr, is_attached, is_some, is_used}
+use Rattle.tables.proofs.Words.{lacks_sequence, listing_schema, misses_table, option_or, position_from, refl}
+use Rattle.tables.proofs.Words.{sequence_text, state, statement_of, subst, sym, table_defined_by, table_named, true}
+use Rattle.tables.proofs.Words.{understood, view_named, ℕ, ◌++◌, ◌+◌, ◌||◌, ◌∙◌, ◌∷◌, ◌≡◌, ◌⊎◌}
+use Rattle.tables.specs.Names.{Name}
+use Rattle.tables.specs.Schema.{no_schema, table_for}
 use Rattle.tables.specs.Versions.{IsUnderstood}
-use Rattle.sqlite_trees.specs.declared.store.Store.{Ghosts}
-use Rattle.sqlite.specs.Held.{Held, state}
-use Rattle.tables.proofs.BatchLemmas.{ran_as, went, same_ok, InTurn}
+use Rattle.tables.specs.auxiliary.Creation.{text_for}
+use Rattle.tables.proofs.BatchLemmas.{InTurn, ran_as}
+use Rattle.tables.proofs.FreeLemmas.{three_false}
+use Rattle.tables.proofs.WriteLemmas.{same_ok, went}
+use Rattle.tables.specs.Names as name
 
 -- what is made of a text that makes a table, by whether a trigger is in the way, and whether an index, or a table or a
 -- view, has its name; what an empty schema makes of it comes last
@@ -120,12 +105,6 @@ none_of : {X : Type 0} (o : Option X) → is_some o ≡ false → o ≡ None
 none_of None missing = refl
 none_of (Some x) missing = absurd (let apart = missing in cc)
 
-neither : (a b c : Bool) → a || b || c ≡ false → (a ≡ false) × (b ≡ false) × (c ≡ false)
-neither false false false none = (refl, refl, refl)
-neither true b c none = absurd (let apart = none in cc)
-neither false true c none = absurd (let apart = none in cc)
-neither false false true none = absurd (let apart = none in cc)
-
 unattached : (s : Schema) (name : List ℕ) → view_named s name ≡ None → is_attached s name ≡ false
 unfolding is_attached
 unattached s name none = rw none refl
@@ -138,7 +117,7 @@ Alone sql table = (command_of (understood no_schema sql) ≡ CreateTable)
 pub free_as_alone : (sql : List ℕ) (table : Table) → Depends sql table.name → Alone sql table
     → (s : Schema) → is_used s table.name ≡ false → understood s sql ≡ understood no_schema sql
 free_as_alone sql table depends alone_is s free =
-    let none = neither (is_some (table_named s table.name)) (is_some (index_named s table.name))
+    let none = three_false (is_some (table_named s table.name)) (is_some (index_named s table.name))
     (is_some (view_named s table.name)) free in
     let no_table = none_of (table_named s table.name) none.0 in
     let no_index = none_of (index_named s table.name) none.1 in
@@ -190,11 +169,16 @@ module _ (sql : List ℕ) (table : Table) (depends : Depends sql table.name)
       )
 
 -- a text that makes a table in any schema that doesn't use its name
-pub record IsMaking (making : Making) : Type 0 where
-  pub depends : Depends making.text making.table.name
-  pub alone : Alone making.text making.table
+pub record IsMaking (m : Name) : Type 0 where
+  pub depends : Depends (text_for m) (table_for m).name
+  pub alone : Alone (text_for m) (table_for m)
   -- the table doesn't count its rows
-  pub uncounted : making.table.is_counted ≡ false
+  pub uncounted : (table_for m).is_counted ≡ false
+
+pub makes : (n : Name) → IsMaking n
+unfolding understood everything
+makes name.Meta = record { depends = λ s. refl; alone = (refl, refl, (refl, refl)); uncounted = refl }
+makes n = record { depends = λ s. refl; alone = (refl, refl, (refl, refl)); uncounted = refl }
 
 -- a name that isn't used later isn't before
 unused : (s after : Schema) (name : List ℕ) → StaysUsed s after → is_used after name ≡ false → is_used s name ≡ false
@@ -205,14 +189,15 @@ unused s after name stays free = elim (cases_Bool (is_used s name)) [
 ]
 
 -- where texts were run in turn, each name was free
-pub names_free : {S : Type 0} (g : Ghosts S) (makings : List Making) → AllByRecursion IsMaking makings
-    → (last : List ℕ) (old new : Held S) → InTurn g makings last old new
-    → AllByRecursion (λ (m : Making). is_used (state g old).now.schema m.table.name ≡ false) makings
-names_free g [] are last old new ran = tt
-names_free g (m ∷ more) are last old new (mid, ran, rest) =
-    let it = named m.text m.table are.0.depends are.0.alone (state g old) (state g mid) ran.0 ran.1 in (
+pub names_free : {S : Type 0} (g : Ghosts S) (ns : List Name) (last : List ℕ) (old new : Held S)
+    → InTurn g ns last old new
+    → AllByRecursion (λ (m : Name). is_used (state g old).now.schema (table_for m).name ≡ false) ns
+names_free g [] last old new ran = tt
+names_free g (m ∷ more) last old new (mid, ran, rest) =
+    let it = named (text_for m) (table_for m) (makes m).depends (makes m).alone (state g old) (state g mid) ran.0
+    ran.1 in (
       it.0,
-      all_weaker (λ (m : Making). is_used (state g mid).now.schema m.table.name ≡ false)
-          (λ (m : Making). is_used (state g old).now.schema m.table.name ≡ false)
-          (λ (m : Making). unused _ _ m.table.name it.1) more (names_free g more are.1 last mid new rest),
+      all_weaker (λ (m : Name). is_used (state g mid).now.schema (table_for m).name ≡ false)
+          (λ (m : Name). is_used (state g old).now.schema (table_for m).name ≡ false)
+          (λ (m : Name). unused _ _ (table_for m).name it.1) more (names_free g more last mid new rest),
     )

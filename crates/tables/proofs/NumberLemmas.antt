@@ -1,23 +1,17 @@
 -- The greatest number of a table's rows, as a query inside a transaction tells it, and a step that takes it.
-use Rattle.std.proofs.Common.{◌≡◌, ◌<◌, ◌≤◌, ℕ, pos, List, [], ◌∷◌, length, get_or, Option, None, Some, Result, Ok, Err}
-use Rattle.std.proofs.Common.{IfOk, refl, sym, ap, ◌∙◌, inl, inr, arith}
-use Rattle.std.specs.Prelude.{Contains, unwrap_or}
+use Rattle.std.specs.Prelude.{Contains}
 use Rattle.std.specs.List.{slice_get}
-use Rattle.sqlite_value.specs.declared.value.Value.TheVariants.{Int}
-use Rattle.sqlite_value.specs.Order.{Row, column}
-use Rattle.sqlite_trees.specs.Tree.{Trees}
-use Rattle.sqlite_rules.specs.Lists.{Has}
-use Rattle.sqlite_rules.proofs.ListLemmas.{has_contained, contains_had}
-use Rattle.sqlite.specs.declared.error.Error.{Error}
-use Rattle.sqlite.specs.State.{State, HasCleanDisk}
-use Rattle.tables.specs.QueryAnswers.{TellsRows, IsReadAs, TellsNumber}
-use Rattle.tables.specs.Transaction.{Carries}
+use Rattle.tables.proofs.Words.{Err, Error, Has, HasCleanDisk, IfOk, Int, List, None, Ok, Option, Result, Row, Some}
+use Rattle.tables.proofs.Words.{State, Trees, [], ap, arith, column, contains_had, get_or, has_contained, inl, inr}
+use Rattle.tables.proofs.Words.{length, pos, refl, sym, unwrap_or, ℕ, ◌<◌, ◌∙◌, ◌∷◌, ◌≡◌, ◌≤◌}
 use Rattle.tables.specs.Changes.{greatest_by}
 use Rattle.tables.specs.Found.{IsGreatestAs}
 use Rattle.tables.specs.Layout.{Holds, IsDatabaseOf}
+use Rattle.tables.specs.QueryAnswers.{IsReadAs, TellsNumber, TellsRows}
 use Rattle.tables.specs.Tables.{Tables}
-use Rattle.tables.proofs.LookupLemmas.{FindsGreatest}
+use Rattle.tables.specs.Transaction.{Carries}
 use Rattle.tables.proofs.CountLemmas.{chained, reworded}
+use Rattle.tables.proofs.LookupLemmas.{FindsGreatest}
 
 -- ---- what an answer begins with
 

@@ -1,47 +1,31 @@
 -- Whether tables are ours, and of which version.
-use Rattle.std.proofs.Common.{◌≡◌, ◌↔◌, Bool, codes, ℕ, ◌+◌, None, Some, Option, pos, true, false, List, [], ◌∷◌}
-use Rattle.std.proofs.Common.{Result, Ok, Err, IfErr, IfOk, OnOk, IsTrue, refl, sym, ap, ◌∙◌, subst, inl}
-use Rattle.std.proofs.Common.{inr, arith, ◌≢◌, ◌≤◌, length}
-use Rattle.sqlite_value.specs.declared.value.Value.TheVariants.{Int}
-use Rattle.sqlite_value.specs.Order.{Row}
-use Rattle.sqlite_trees.specs.declared.error.StoreError.{StoreError}
-use Rattle.sqlite_trees.specs.declared.error.StoreError.TheVariants.{OutOfMemory, Io, Corrupt, Full, Broken, Unstorable}
-use Rattle.sqlite_sql.specs.Term.{col}
-use Rattle.sqlite_schema.specs.declared.command.Command.{Command}
-use Rattle.sqlite_schema.specs.declared.command.Command.TheVariants.{Select}
-use Rattle.sqlite_resolve.specs.declared.compiled.Compiled.{Compiled}
-use Rattle.sqlite_resolve.specs.declared.error.CompileError.{CompileError}
-use Rattle.sqlite_tied.specs.Compute.{everything}
-use Rattle.sqlite.specs.declared.error.Error.{Error}
-use Rattle.sqlite.specs.declared.error.Error.TheVariants.{SqliteFailure, SqlInputError}
-use Rattle.sqlite.specs.declared.error.ErrorCode.TheVariants as code
+use Rattle.sqlite_resolve.specs.Compile.{timed}
 use Rattle.sqlite.specs.Outline.{Outline}
-use Rattle.sqlite.specs.Steps.{Outlines}
-use Rattle.sqlite.specs.Effect.{Database, Reads, RefusesToRead}
-use Rattle.sqlite.specs.Listing.{understood, reads_listing, listing_schema, if_select, IsSourceOf}
-use Rattle.sqlite_syntax.specs.declared.statement.Parsed.{Parsed}
-use Rattle.sqlite_schema.specs.declared.schema.Schema.{Schema}
-use Rattle.sqlite_schema.specs.declared.command.Returning.{Returning}
-use Rattle.sqlite_resolve.specs.declared.error.CompileError.TheVariants.{NoSuchTable}
-use Rattle.sqlite_resolve.specs.Lowering.{Checked, and_then}
-use Rattle.sqlite_resolve.specs.Compile.{first, compiled, planned, meaning, returning, timed, small, with_command}
-use Rattle.std.proofs.lemmas.Bool.{cases_Bool}
-use Rattle.sqlite.specs.State.{State, HasCleanDisk, Survives, IsUnchanged, IsNotRun, store_error}
-use Rattle.sqlite.proofs.Callers.{command_of, one_permutation}
-use Rattle.tables.specs.Schema.{schema_of, the_schema}
-use Rattle.tables.specs.declared.version.Version.{Version}
-use Rattle.tables.specs.declared.version.Version.TheVariants as version
-use Rattle.tables.specs.Tables.{Tables}
+use Rattle.tables.proofs.Words.{Bool, Broken, Checked, Command, CompileError, Compiled, Corrupt, Database, Err, Error}
+use Rattle.tables.proofs.Words.{Full, HasCleanDisk, IfErr, IfOk, Int, Io, IsNotRun, IsSourceOf, IsTrue, IsUnchanged}
+use Rattle.tables.proofs.Words.{List, NoSuchTable, None, Ok, Option, OutOfMemory, Outlines, Parsed, Reads}
+use Rattle.tables.proofs.Words.{RefusesToRead, Result, Returning, Row, Schema, Select, Some, SqlInputError}
+use Rattle.tables.proofs.Words.{SqliteFailure, State, StoreError, Survives, Unstorable, [], and_then, ap, arith}
+use Rattle.tables.proofs.Words.{cases_Bool, codes, col, command_of, compiled, everything, false, first, if_select, inl}
+use Rattle.tables.proofs.Words.{inr, length, listing_schema, meaning, nat_le, one_permutation, planned, pos}
+use Rattle.tables.proofs.Words.{reads_listing, refl, returning, small, store_error, subst, sym, true, understood}
+use Rattle.tables.proofs.Words.{with_command, ℕ, ◌+◌, ◌↔◌, ◌∙◌, ◌∷◌, ◌≡◌, ◌≢◌, ◌≤◌}
 use Rattle.tables.specs.Layout.{AreRows, IsDatabaseIn, version_cells}
-use Rattle.tables.specs.Names as name
-use Rattle.tables.specs.QueryAnswers.{IsQueryText, IsPlainIn, Answers, Looks, StaysUsable}
-use Rattle.tables.specs.Versions.{all_columns, second_columns, first_columns, version_query, number_of}
-use Rattle.tables.specs.Versions.{IsUnderstood, IsKnownAs, IsVersion, LooksForeign, TellsVersion}
-use Rattle.tables.specs.Versions.{HasFailed, IsUnfit, IsRefused, IsUnprepared, IsUnanswered}
+use Rattle.tables.specs.QueryAnswers.{Answers, IsPlainIn, Looks, StaysUsable}
+use Rattle.tables.specs.Schema.{schema_of}
+use Rattle.tables.specs.Tables.{Tables}
+use Rattle.tables.specs.Versions.{HasFailed, IsKnownAs, IsRefused, IsUnanswered, IsUnderstood, IsUnfit, IsUnprepared}
+use Rattle.tables.specs.Versions.{IsVersion, LooksForeign, TellsVersion, number_of, version_query}
+use Rattle.tables.specs.auxiliary.Told.{TellsColumns}
+use Rattle.tables.specs.declared.version.Version.{Version}
 use Rattle.tables.proofs.AskLemmas.{fails_so}
-use Rattle.tables.proofs.UsableLemmas.{survivor_usable}
-use Rattle.tables.proofs.ReadLemmas.{program_of, no_limit, passes, shows, answered}
 use Rattle.tables.proofs.ChangeLemmas.{found_are}
+use Rattle.tables.proofs.ReadLemmas.{answered, no_limit, passes, program_of, shows}
+use Rattle.tables.proofs.UsableLemmas.{survivor_usable}
+use Rattle.tables.proofs.WriteLemmas.{before}
+use Rattle.sqlite.specs.declared.error.ErrorCode.TheVariants as code
+use Rattle.tables.specs.declared.version.Version.TheVariants as version
+use Rattle.tables.specs.Names as name
 
 unchanged_now : (old new : State) → IsUnchanged old new → old.now ≡ old.committed
     → (new.now ≡ old.now) × (new.now ≡ new.committed)
@@ -73,43 +57,25 @@ unprepared_looks old new sql e s err = record {
   usable = survivor_usable old new _ s;
 }
 
--- which schema knows which columns
-all_in_third : IsUnderstood (understood the_schema all_columns)
-unfolding understood everything
-all_in_third = tt
-
-second_in_second : IsUnderstood (understood (schema_of 2) second_columns)
-unfolding understood everything
-second_in_second = tt
-
-first_in_first : IsUnderstood (understood (schema_of 1) first_columns)
-unfolding understood everything
-first_in_first = tt
-
-all_not_in_second : ¬ IsUnderstood (understood (schema_of 2) all_columns)
+-- each version's schema knows its own columns, and not those of a later one
+own : (v : Version) → IsKnownAs (Some v) (schema_of (number_of v))
 unfolding understood everything listing_schema
-all_not_in_second known = known
-
-all_not_in_first : ¬ IsUnderstood (understood (schema_of 1) all_columns)
-unfolding understood everything listing_schema
-all_not_in_first known = known
-
-second_not_in_first : ¬ IsUnderstood (understood (schema_of 1) second_columns)
-unfolding understood everything listing_schema
-second_not_in_first known = known
+own version.First = ((λ known. known), (λ known. known), tt)
+own version.Second = ((λ known. known), tt)
+own version.Current = tt
 
 known_in : (v : Version) (found : Option Version) → IsKnownAs found (schema_of (number_of v)) → found ≡ Some v
-known_in version.First None known = absurd (known.2 first_in_first)
+known_in version.First None known = absurd (known.2 (own version.First).2)
 known_in version.First (Some version.First) known = refl
-known_in version.First (Some version.Second) known = absurd (second_not_in_first known.1)
-known_in version.First (Some version.Current) known = absurd (all_not_in_first known)
-known_in version.Second None known = absurd (known.1 second_in_second)
-known_in version.Second (Some version.First) known = absurd (known.1 second_in_second)
+known_in version.First (Some version.Second) known = absurd ((own version.First).1 known.1)
+known_in version.First (Some version.Current) known = absurd ((own version.First).0 known)
+known_in version.Second None known = absurd (known.1 (own version.Second).1)
+known_in version.Second (Some version.First) known = absurd (known.1 (own version.Second).1)
 known_in version.Second (Some version.Second) known = refl
-known_in version.Second (Some version.Current) known = absurd (all_not_in_second known)
-known_in version.Current None known = absurd (known.0 all_in_third)
-known_in version.Current (Some version.First) known = absurd (known.0 all_in_third)
-known_in version.Current (Some version.Second) known = absurd (known.0 all_in_third)
+known_in version.Second (Some version.Current) known = absurd ((own version.Second).0 known)
+known_in version.Current None known = absurd (known.0 (own version.Current))
+known_in version.Current (Some version.First) known = absurd (known.0 (own version.Current))
+known_in version.Current (Some version.Second) known = absurd (known.0 (own version.Current))
 known_in version.Current (Some version.Current) known = refl
 
 -- tables are known as those of their own version
@@ -191,20 +157,11 @@ module _ (old new : State) (sql : List ℕ) (error : Error) (not_run : IsNotRun 
   abbrev pub IsKnown : Bool → Type 0
   IsKnown found = (found ≡ false) × ((f : CompileError) × (error ≡ SqlInputError f))
 
-  pub read_opened : (r : Result Bool Error) → IfOk r IsKnown → OnOk r (IsTrue old.is_open)
-  read_opened (Ok found) (answer, (f, is)) = (unknown_same old new sql f (subst (IsNotRun old new sql []) is not_run)).1
-  read_opened (Err e) known = tt
-
-  pub read_same : (r : Result Bool Error) → IfOk r IsKnown → OnOk r (new.now ≡ old.now)
-  read_same (Ok found) (answer, (f, is)) = (unknown_same old new sql f (subst (IsNotRun old new sql []) is not_run)).0
-  read_same (Err e) known = tt
-
-  pub read_told : (r : Result Bool Error) → IfOk r IsKnown
-      → IfOk r (λ found. IsTrue found ↔ IsUnderstood (understood old.now.schema sql))
-  read_told (Ok found) (answer, (f, is)) = (
-    (λ y. absurd (let apart = y in cc)),
-    (λ known. absurd (never_known old new sql f (subst (IsNotRun old new sql []) is not_run) known)),
-  )
+  pub read_told : (r : Result Bool Error) → IfOk r IsKnown → IfOk r (TellsColumns sql old new)
+  read_told (Ok found) (answer, (f, is)) =
+      let it = subst (IsNotRun old new sql []) is not_run in
+      let same = unknown_same old new sql f it in
+      (same.1, same.0, ((λ y. absurd (let apart = y in cc)), (λ known. absurd (never_known old new sql f it known))))
   read_told (Err e) known = tt
 
   pub read_unprepared : (r : Result Bool Error)
@@ -219,29 +176,13 @@ module _ (old new : State) (sql : List ℕ) (error : Error) (not_run : IsNotRun 
 abbrev version_select : Command
 version_select = Select (program_of 0 [] (col 1 1 ∷ []) [] no_limit) (codes "version" ∷ [])
 
-version_command : command_of (understood the_schema version_query) ≡ version_select
+asks_version : (v : Version) → let s = schema_of (number_of v) in
+    (command_of (understood s version_query) ≡ version_select) × (reads_listing s version_query ≡ false)
+    × IsTrue (nat_le 1 (number_of v))
 unfolding understood everything
-version_command = refl
-
-second_command : command_of (understood (schema_of 2) version_query) ≡ version_select
-unfolding understood everything
-second_command = refl
-
-first_command : command_of (understood (schema_of 1) version_query) ≡ version_select
-unfolding understood everything
-first_command = refl
-
-pub version_text : IsQueryText version_query
-unfolding understood everything
-version_text = record { plain = (refl, refl); unlisted = refl }
-
-second_unlisted : reads_listing (schema_of 2) version_query ≡ false
-unfolding understood everything
-second_unlisted = refl
-
-first_unlisted : reads_listing (schema_of 1) version_query ≡ false
-unfolding understood everything
-first_unlisted = refl
+asks_version version.First = (refl, refl, refl)
+asks_version version.Second = (refl, refl, refl)
+asks_version version.Current = (refl, refl, refl)
 
 -- its rows are the one row that it holds
 version_row : (s : Schema) → command_of (understood s version_query) ≡ version_select
@@ -263,26 +204,28 @@ version_row s is unlisted version d has held rows (c, known, source, from, reads
 
 pub version_of : (v : Version) (t : Tables) (d : Database) → IsDatabaseIn (number_of v) t d → (rows : List Row)
     → Answers version_query [] d rows → IsVersion (number_of v) rows
-version_of version.First t d is = version_row (schema_of 1) first_command first_unlisted 1 d is.schema
-    (is.holds.rows name.Meta refl)
-version_of version.Second t d is = version_row (schema_of 2) second_command second_unlisted 2 d is.schema
-    (is.holds.rows name.Meta refl)
-version_of version.Current t d is = version_row the_schema version_command version_text.unlisted 3 d is.schema
-    (is.holds.rows name.Meta refl)
+version_of v t d is =
+    let asks = asks_version v in
+    version_row (schema_of (number_of v)) asks.0 asks.1 (number_of v) d is.schema (is.holds.rows name.Meta asks.2)
 
 -- ---- what was told
 
-abbrev pub TellsColumns : List ℕ → Database → Bool → Type 0
-TellsColumns asked d found = IsTrue found ↔ IsUnderstood (understood d.schema asked)
+pub unknown_if : (asked : List ℕ) (old new : State) (found : Bool) → TellsColumns asked old new found → found ≡ false
+    → ¬ IsUnderstood (understood old.now.schema asked)
+unknown_if asked old new found told isnt known = let y = told.2.1 known in cc
 
-pub unknown_if : (asked : List ℕ) (d : Database) (found : Bool) → TellsColumns asked d found → found ≡ false
-    → ¬ IsUnderstood (understood d.schema asked)
-unknown_if asked d found told isnt known = let y = told.1 known in cc
-
--- what was told of the database as it was before
-pub told_before : (asked : List ℕ) (old mid : Database) → mid ≡ old → (found : Bool) → TellsColumns asked mid found
-    → TellsColumns asked old found
-told_before asked old mid same found told = subst (λ d. TellsColumns asked d found) same told
+-- what is told after a query that isn't understood, of the connection as it was before
+pub told_after : (asked later : List ℕ) (old mid new : State) (found next : Bool) → TellsColumns asked old mid found
+    → found ≡ false → TellsColumns later mid new next
+    → (¬ IsUnderstood (understood old.now.schema asked)) × TellsColumns later old new next
+told_after asked later old mid new found next first isnt then = (
+  unknown_if asked old mid found first isnt,
+  (
+    first.0,
+    then.1 ∙ first.1,
+    subst (λ (d : Database). IsTrue next ↔ IsUnderstood (understood d.schema later)) first.1 then.2,
+  ),
+)
 
 abbrev pub TellsNumber : ℕ → Database → Bool → Type 0
 TellsNumber number d found = (rows : List Row) × Answers version_query [] d rows × (IsTrue found ↔ IsVersion number rows)

@@ -1,12 +1,13 @@
 -- What was read of a row, from what it shows.
-use Rattle.std.proofs.Common.{◌≡◌, ◌∙◌, ℕ, ℤ, pos, List, Option, Some, None, refl, sym, ap, ap₂}
-use Rattle.sqlite_value.specs.declared.value.Value.TheVariants.{Int, Text}
-use Rattle.sqlite_value.specs.Order.{Row, column}
+use Rattle.book.specs.declared.values.Hold.{Hold}
+use Rattle.tables.proofs.Words.{Int, List, None, Option, Row, Some, Text, ap, ap₂, column, pos, refl, sym, ℕ, ℤ, ◌∙◌}
+use Rattle.tables.proofs.Words.{◌≡◌}
 use Rattle.tables.specs.Layout.{token_cell}
-use Rattle.tables.specs.Queries.{ShowsLast}
-use Rattle.tables.specs.Shown.{last_shown}
-use Rattle.tables.specs.Tables.{StampRow}
+use Rattle.tables.specs.Queries.{ShowsCalibration, ShowsHold, ShowsLast}
+use Rattle.tables.specs.Tables.{CalibrationRow, HoldRow, StampRow}
+use Rattle.tables.specs.auxiliary.Shown.{calibration_shown, hold_shown, last_shown}
 use Rattle.tables.specs.declared.rows.LastStamp.{LastStamp}
+use Rattle.tables.specs.declared.rows.NumberedCalibration.{NumberedCalibration}
 
 pub number_of : (row shown : Row) (at n m : ℕ) → row ≡ shown → column row at ≡ Int (pos n)
     → column shown at ≡ Int (pos m) → n ≡ m
@@ -34,3 +35,17 @@ pub last_read : (x : StampRow) (row : Row) (last : LastStamp) → row ≡ last_s
 last_read x row last is read =
     let of : ℕ → ℕ → LastStamp = λ serial gen_time. record { serial = serial; gen_time = gen_time } in
     ap₂ of (number_of _ _ 0 _ _ is read.0 refl) (number_of _ _ 1 _ _ is read.1 refl)
+
+pub calibration_read : (x : CalibrationRow) (row : Row) (c : NumberedCalibration) → row ≡ calibration_shown x
+    → (column row 0 ≡ Int (pos c.n)) × (column row 1 ≡ Int c.reading) × (column row 2 ≡ Int c.offset)
+    × (column row 3 ≡ Int (pos c.uncertainty)) → ShowsCalibration x c
+calibration_read x row c is read = (
+  number_of _ _ 0 _ _ is read.0 refl,
+  signed_of _ _ 1 _ _ is read.1 refl,
+  signed_of _ _ 2 _ _ is read.2 refl,
+  number_of _ _ 3 _ _ is read.3 refl,
+)
+
+pub hold_read : (x : HoldRow) (row : Row) (h : Hold) → row ≡ hold_shown x
+    → (column row 0 ≡ Int h.from) × (column row 1 ≡ Int h.to) → ShowsHold x h
+hold_read x row h is read = (signed_of _ _ 0 _ _ is read.0 refl, signed_of _ _ 1 _ _ is read.1 refl)

@@ -1,21 +1,10 @@
 -- What a query over one table answers.
-use Rattle.std.proofs.Common.{◌≡◌, ℕ, ◌^◌, ◌-◌, flat_map, pos, negsuc, Bool, true, false, cond, List, [], ◌∷◌}
-use Rattle.std.proofs.Common.{map, filter, slice_get, None, nat_le, refl, sym, ap, ◌∙◌, subst}
-use Rattle.std.proofs.Common.{IsPermutation}
-use Rattle.std.specs.Prelude.{IsSorted}
-use Rattle.std.specs.List.{list_all}
-use Rattle.std.proofs.lemmas.List.Sorted.{IsPermutation-map}
-use Rattle.sqlite_value.specs.declared.value.Value.TheVariants.{Null, Int}
-use Rattle.sqlite_value.specs.declared.keys.Key.{Key}
-use Rattle.sqlite_value.specs.Order.{Row}
-use Rattle.sqlite_trees.specs.Tree.{Trees}
-use Rattle.sqlite_trees.proofs.ListLemmas.{map-map}
-use Rattle.sqlite_sql.specs.Term.{Term, lit, eval_all, holds}
-use Rattle.sqlite_sql.specs.Query.{Query, Output, IsAnswer, inner, end, output, output_cmp, page}
-use Rattle.sqlite_sql.specs.Program.{overlay, given_at}
-use Rattle.sqlite_schema.specs.declared.program.Program.{Program}
-use Rattle.sqlite_schema.specs.declared.schema.Schema.{Schema}
-use Rattle.sqlite.specs.Effect.{Answers}
+use Rattle.sqlite_sql.specs.Program.{given_at, overlay}
+use Rattle.tables.proofs.Words.{Answers, Bool, Int, IsAnswer, IsPermutation, IsPermutation-map, IsSorted, Key, List}
+use Rattle.tables.proofs.Words.{None, Null, Output, Program, Query, Row, Schema, Term, Trees, [], ap, cond, end}
+use Rattle.tables.proofs.Words.{eval_all, false, filter, flat_map, holds, inner, list_all, lit, map, map-map, nat_le}
+use Rattle.tables.proofs.Words.{negsuc, output, output_cmp, page, pos, refl, slice_get, subst, sym, true, ℕ, ◌-◌, ◌^◌}
+use Rattle.tables.proofs.Words.{◌∙◌, ◌∷◌, ◌≡◌}
 use Rattle.tables.proofs.ListLemmas.{flat_map_tested}
 
 nothing_given : (t : ℕ) → given_at [] t ≡ None

@@ -1,53 +1,29 @@
 -- The making of tables is refused for a name only where one of theirs is used.
-use Rattle.std.proofs.Common.{◌≡◌, ◌⊎◌, ℕ, Bool, true, false, List, [], ◌∷◌, ◌++◌, map, None, Some, Option}
-use Rattle.std.proofs.Common.{slice_get, Result, Ok, Err, IfErr, IfOk, refl, sym, ap, ◌∙◌, subst, subst₂, inl, inr}
-use Rattle.std.proofs.lemmas.Bool.{cases_Bool}
-use Rattle.std.specs.List.{AllByRecursion, list_any}
-use Rattle.sqlite_trees.specs.Tree.{Trees}
-use Rattle.sqlite_trees.specs.declared.store.Store.{Ghosts}
-use Rattle.sqlite_trees.specs.declared.error.StoreError.{StoreError}
-use Rattle.sqlite_trees.specs.declared.error.StoreError.TheVariants.{OutOfMemory, Io, Corrupt, Full, Broken, Unstorable}
-use Rattle.sqlite_schema.specs.declared.schema.Table.{Table}
-use Rattle.sqlite_schema.specs.declared.schema.Index.{Index}
-use Rattle.sqlite_schema.specs.declared.schema.Schema.{Schema}
-use Rattle.sqlite_schema.specs.declared.command.Command.{Command}
-use Rattle.sqlite_schema.specs.declared.command.Command.TheVariants.{CreateTable, Insert, Update}
-use Rattle.sqlite_schema.specs.declared.program.Program.{Program}
-use Rattle.sqlite_schema.specs.declared.command.Source.TheVariants.{Values}
+use Rattle.sqlite_catalog.specs.Calls.{RefusesTable}
 use Rattle.sqlite_rules.specs.declared.error.Refusal.{Refusal}
-use Rattle.sqlite_rules.specs.declared.error.Refusal.TheVariants.{Violates, Mismatch, BadReference, NoRowid, TooDeep}
+use Rattle.sqlite_rules.specs.declared.error.Refusal.TheVariants.{BadReference, Mismatch, NoRowid, TooDeep, Violates}
+use Rattle.tables.proofs.Words.{AllByRecursion, Bool, Broken, Command, CompileError, Compiled, Concludes, Corrupt}
+use Rattle.tables.proofs.Words.{CreateTable, Database, Does, Edit, Edited, Err, Error, ExecutesAllInside, ExecutesIn}
+use Rattle.tables.proofs.Words.{Full, Ghosts, Gives, Has, Held, IfErr, IfOk, Index, Insert, Inserts, Io, IsNotRun}
+use Rattle.tables.proofs.Words.{IsPlain, IsStatement, List, MakesSequence, MakesTable, Mode, None, Ok, OnRows, Option}
+use Rattle.tables.proofs.Words.{OutOfMemory, Part, Program, Queried, Result, RunsAlone, Schema, Some, Sourced, State}
+use Rattle.tables.proofs.Words.{Stops, StoreError, Table, Task, Trees, Unstorable, Update, Updates, Values, Written, []}
+use Rattle.tables.proofs.Words.{alter_error, ap, automatics, cases_Bool, command_of, created, drop, edit_error}
+use Rattle.tables.proofs.Words.{everything, false, inl, inr, is_used, lacks_sequence, list_any, map, mode_of, next_tree}
+use Rattle.tables.proofs.Words.{refl, shows_rows, slice_get, stamped, state, statement_of, store_error, subst, subst₂}
+use Rattle.tables.proofs.Words.{sym, table_defined_by, timed, true, understood, ℕ, ◌++◌, ◌∙◌, ◌∷◌, ◌≡◌, ◌⊎◌}
+use Rattle.tables.specs.Names.{Name, names}
+use Rattle.tables.specs.Schema.{meta, placed, table_for, the_schema}
+use Rattle.tables.specs.Versions.{IsInTheWay, IsUnderstood, takes_index, takes_name, tells_taken}
+use Rattle.tables.specs.auxiliary.Creation.{insert_version, joined, make_all, text_for}
+use Rattle.tables.proofs.BatchLemmas.{AreCut, Goes, Turns, are_cut, cut_last, ended, in_turn, turn}
+use Rattle.tables.proofs.CreateLemmas.{MakesIn, begun, makes_in, makes_table, schema_with, version_terms}
+use Rattle.tables.proofs.FillLemmas.{fill_facts, fills}
+use Rattle.tables.proofs.FreeLemmas.{AreFree, HasMeta, clashes, lacks_still, made_meta, stay_free, still_meta}
+use Rattle.tables.proofs.NameLemmas.{makes, names_free}
+use Rattle.tables.proofs.WriteLemmas.{plain_mode}
 use Rattle.sqlite_catalog.specs.declared.error.Refusal as alter
 use Rattle.sqlite_catalog.specs.declared.error.Refusal.TheVariants as why
-use Rattle.sqlite_rules.specs.Lists.{Has}
-use Rattle.sqlite_rules.specs.Edit.{Edit}
-use Rattle.sqlite_resolve.specs.Compile.{table_defined_by}
-use Rattle.sqlite_resolve.specs.declared.compiled.Compiled.{Compiled}
-use Rattle.sqlite_resolve.specs.declared.error.CompileError.{CompileError}
-use Rattle.sqlite_catalog.specs.Change.{created, is_used, automatics, next_tree}
-use Rattle.sqlite_catalog.specs.Calls.{RefusesTable}
-use Rattle.sqlite_tied.specs.Compute.{everything}
-use Rattle.sqlite.specs.declared.error.Error.{Error}
-use Rattle.sqlite.specs.declared.run.Mode.{Mode}
-use Rattle.sqlite.specs.Batch.{Stops, ExecutesAllInside}
-use Rattle.sqlite.specs.Clock.{timed}
-use Rattle.sqlite.specs.Does.{Does, OnRows, MakesTable, MakesSequence, Concludes, lacks_sequence}
-use Rattle.sqlite.specs.Effect.{Database, edit_error, alter_error}
-use Rattle.sqlite.specs.Held.{Held, state}
-use Rattle.sqlite.specs.Listing.{understood}
-use Rattle.sqlite.specs.Rows.{Part, Gives, Task, Written, Queried, Sourced, Edited, Updates, Inserts, stamped}
-use Rattle.sqlite.specs.State.{State, RunsAlone, IsStatement, ExecutesIn, IsNotRun}
-use Rattle.sqlite.specs.State.{shows_rows, mode_of, store_error}
-use Rattle.sqlite.proofs.Callers.{IsPlain, command_of, statement_of}
-use Rattle.tables.specs.Creation.{Making, makings, later_makings, joined, insert_version, make_all}
-use Rattle.tables.specs.Schema.{the_schema, placed, meta}
-use Rattle.tables.specs.Versions.{IsUnderstood, IsInTheWay, takes_name, takes_index, tells_taken}
-use Rattle.tables.proofs.WriteLemmas.{plain_mode}
-use Rattle.tables.proofs.BatchLemmas.{AreCut, Goes, Turns, cut_last, turn, ended, in_turn}
-use Rattle.tables.proofs.CreateLemmas.{MakesIn, makes_in, makes_table, schema_with, version_terms, begun}
-use Rattle.tables.proofs.MakingLemmas.{are_makings, are_cut}
-use Rattle.tables.proofs.NameLemmas.{IsMaking, names_free}
-use Rattle.tables.proofs.FreeLemmas.{clashes, AreFree, stay_free, lacks_still, HasMeta, made_meta, still_meta}
-use Rattle.tables.proofs.FillLemmas.{fills, fill_facts}
 
 -- an error of another kind, or a row that can't be stored
 abbrev IsSpared : Option Error → Type 0
@@ -270,16 +246,16 @@ module _ {S : Type 0} (g : Ghosts S) (new : Held S) where
 abbrev indexes_of : Table → List Index
 indexes_of table = automatics table 0 0 table.uniques
 
-abbrev names_of : List Making → List (List ℕ)
+abbrev names_of : List Name → List (List ℕ)
 names_of [] = []
-names_of (m ∷ more) = m.table.name ∷ (map (λ (i : Index). i.name) (indexes_of m.table) ++ names_of more)
+names_of (m ∷ more) = (table_for m).name ∷ (map (λ (i : Index). i.name) (indexes_of (table_for m)) ++ names_of more)
 
 -- no table takes a name of a later one
-abbrev AreApart : List Making → Type 0
+abbrev AreApart : List Name → Type 0
 AreApart [] = Unit {0}
-AreApart (m ∷ more) = ((tree : ℕ) → list_any (clashes m.table tree) (names_of more) ≡ false) × AreApart more
+AreApart (m ∷ more) = ((tree : ℕ) → list_any (clashes (table_for m) tree) (names_of more) ≡ false) × AreApart more
 
-ours_apart : AreApart makings
+ours_apart : AreApart names
 unfolding everything
 ours_apart = (
   (λ tree. refl),
@@ -327,26 +303,27 @@ module _ {S : Type 0} (g : Ghosts S) (new : Held S) (r : Result (Unit {0}) Error
   Spared = IfErr r (λ e. tells_taken e ≡ false)
 
   -- those that make tables, up to the last text
-  tables_turn : (makings : List Making) → AllByRecursion IsMaking makings → AreApart makings → (last : List ℕ)
-      → AreCut makings last → (s : Schema) → Before s (names_of makings) → (old : Held S)
+  tables_turn : (ns : List Name) → AreApart ns → (last : List ℕ)
+      → AreCut ns last → (s : Schema) → Before s (names_of ns) → (old : Held S)
       → (state g old).now.schema ≡ s
-      → ((mid : Held S) → (state g mid).now.schema ≡ schema_with s makings → Goes g last mid new r → Spared)
-      → Goes g (joined makings last) old new r → Spared
-  tables_turn [] are apart last cut s b old has next ran = next old has ran
-  tables_turn (m ∷ more) are apart last cut s b old has next ran =
+      → ((mid : Held S) → (state g mid).now.schema ≡ schema_with s ns → Goes g last mid new r → Spared)
+      → Goes g (joined ns last) old new r → Spared
+  tables_turn [] apart last cut s b old has next ran = next old has ran
+  tables_turn (m ∷ more) apart last cut s b old has next ran =
       let free = b.free.0 in
-      let is = makes_in m are.0 s free in
-      let counted = lacks_still s m.table are.0.uncounted b.counted in
-      let rest_free = later_free s (map (λ (i : Index). i.name) (indexes_of m.table)) (names_of more) b.free.1 in
-      let after : Before (created s m.table) (names_of more) = record {
-        free = stay_free s m.table (names_of more) rest_free
-            (none_any (clashes m.table (next_tree s)) (names_of more) (apart.0 (next_tree s)));
+      let is = makes_in m s free in
+      let counted = lacks_still s (table_for m) (makes m).uncounted b.counted in
+      let rest_free = later_free s (map (λ (i : Index). i.name) (indexes_of (table_for m))) (names_of more) b.free.1 in
+      let after : Before (created s (table_for m)) (names_of more) = record {
+        free = stay_free s (table_for m) (names_of more) rest_free
+            (none_any (clashes (table_for m) (next_tree s)) (names_of more) (apart.0 (next_tree s)));
         counted = counted;
       } in
-      table_turn g new m.text s m.table (joined more last) old r has is (plain_known (understood s m.text) is.2) free
-      (each_free s (indexes_of m.table) (names_of more) b.free.1) counted
-      (λ mid made others. tables_turn more are.1 apart.1 last cut.1 (created s m.table) after mid made next others)
-      (turn g (joined (m ∷ more) last) m.text (joined more last) cut.0 old new r ran)
+      table_turn g new (text_for m) s (table_for m) (joined more last) old r has is
+      (plain_known (understood s (text_for m)) is.2) free
+      (each_free s (indexes_of (table_for m)) (names_of more) b.free.1) counted
+      (λ mid made others. tables_turn more apart.1 last cut.1 (created s (table_for m)) after mid made next others)
+      (turn g (joined (m ∷ more) last) (text_for m) (joined more last) cut.0 old new r ran)
 
   -- the row of `meta`
   version_turn : (s : Schema) → HasMeta s → (old : Held S) → (state g old).now.schema ≡ s
@@ -368,43 +345,43 @@ module _ {S : Type 0} (g : Ghosts S) (new : Held S) (r : Result (Unit {0}) Error
       subst (λ (x : Result (Unit {0}) Error). IfErr x (λ e. tells_taken e ≡ false)) (sym (ended g mid new r others).0)
       tt
 
-still_has_meta : (makings : List Making) (s : Schema) → HasMeta s → HasMeta (schema_with s makings)
+still_has_meta : (ns : List Name) (s : Schema) → HasMeta s → HasMeta (schema_with s ns)
 still_has_meta [] s has = has
-still_has_meta (m ∷ more) s has = still_has_meta more (created s m.table) (still_meta s m.table has)
+still_has_meta (m ∷ more) s has = still_has_meta more (created s (table_for m)) (still_meta s (table_for m) has)
 
 all_turn : {S : Type 0} (g : Ghosts S) (old new : Held S) (r : Result (Unit {0}) Error) (s : Schema)
-    → Before s (names_of makings) → (state g old).now.schema ≡ s → Goes g make_all old new r
+    → Before s (names_of names) → (state g old).now.schema ≡ s → Goes g make_all old new r
     → IfErr r (λ e. tells_taken e ≡ false)
 all_turn g old new r s b has ran =
-    tables_turn g new r makings are_makings ours_apart insert_version are_cut s b old has
-    (λ mid made others. version_turn g new r (schema_with s makings)
-    (still_has_meta later_makings (created s meta) (made_meta s b.free.0)) mid made
-    (turn g insert_version insert_version [] (cut_last makings insert_version are_cut) mid new r others)) ran
+    tables_turn g new r names ours_apart insert_version are_cut s b old has
+    (λ mid made others. version_turn g new r (schema_with s names)
+    (still_has_meta (drop 1 names) (created s meta) (made_meta s b.free.0)) mid made
+    (turn g insert_version insert_version [] (cut_last names insert_version are_cut) mid new r others)) ran
 
 -- the indexes of all of them
-abbrev all_indexes : List Making → List Index
+abbrev all_indexes : List Name → List Index
 all_indexes [] = []
-all_indexes (m ∷ more) = indexes_of m.table ++ all_indexes more
+all_indexes (m ∷ more) = indexes_of (table_for m) ++ all_indexes more
 
-indexes_free : (s : Schema) (indexes later : List Index) (names : List (List ℕ))
+indexes_free : (s : Schema) (indexes later : List Index) (others : List (List ℕ))
     → AllByRecursion (λ (i : Index). is_used s i.name ≡ false) (indexes ++ later)
-    → (AllByRecursion (λ (i : Index). is_used s i.name ≡ false) later → AreFree s names)
-    → AreFree s (map (λ (i : Index). i.name) indexes ++ names)
-indexes_free s [] later names all next = next all
-indexes_free s (i ∷ indexes) later names all next = (all.0, indexes_free s indexes later names all.1 next)
+    → (AllByRecursion (λ (i : Index). is_used s i.name ≡ false) later → AreFree s others)
+    → AreFree s (map (λ (i : Index). i.name) indexes ++ others)
+indexes_free s [] later others all next = next all
+indexes_free s (i ∷ indexes) later others all next = (all.0, indexes_free s indexes later others all.1 next)
 
-each_name_free : (s : Schema) (ms : List Making) → AllByRecursion (λ (m : Making). is_used s m.table.name ≡ false) ms
+each_name_free : (s : Schema) (ms : List Name) → AllByRecursion (λ (m : Name). is_used s (table_for m).name ≡ false) ms
     → AllByRecursion (λ (i : Index). is_used s i.name ≡ false) (all_indexes ms) → AreFree s (names_of ms)
 each_name_free s [] tables indexes = tt
 each_name_free s (m ∷ more) tables indexes = (
   tables.0,
-  indexes_free s (indexes_of m.table) (all_indexes more) (names_of more) indexes (each_name_free s more tables.1),
+  indexes_free s (indexes_of (table_for m)) (all_indexes more) (names_of more) indexes (each_name_free s more tables.1),
 )
 
-all_free : (s : Schema) → takes_name s ≡ false → takes_index s ≡ false → AreFree s (names_of makings)
+all_free : (s : Schema) → takes_name s ≡ false → takes_index s ≡ false → AreFree s (names_of names)
 unfolding everything
-all_free s names indexes =
-    each_name_free s makings (none_any (λ (table : Table). is_used s table.name) the_schema.tables names)
+all_free s tables indexes =
+    each_name_free s names (none_any (λ (table : Table). is_used s table.name) the_schema.tables tables)
     (none_any (λ (index : Index). is_used s index.name) the_schema.indexes indexes)
 
 -- the batch is refused for a name only where something stands in its way
@@ -416,12 +393,12 @@ in_the_way g old new (Err e) ran = λ taken.
     let s = (state g old).now.schema in
     elim (cases_Bool (takes_name s)) [
       | inl name ↦ inl name
-      | inr names ↦ elim (cases_Bool (takes_index s)) [
+      | inr tables ↦ elim (cases_Bool (takes_index s)) [
         | inl index ↦ inr (inl index)
         | inr indexes ↦ elim (cases_Bool (lacks_sequence s)) [
           | inl lacks ↦ inr (inr lacks)
           | inr counted ↦ absurd (let free = all_turn g old new (Err e) s
-              (record { free = all_free s names indexes; counted = counted }) refl (begun g old new (Err e) ran) in cc)
+              (record { free = all_free s tables indexes; counted = counted }) refl (begun g old new (Err e) ran) in cc)
         ]
       ]
     ]
@@ -431,12 +408,12 @@ pub names_free_if : {S : Type 0} (g : Ghosts S) (old new : Held S) (r : Result (
     → ExecutesAllInside g 0 make_all old new r → IfOk r (λ _. takes_name (state g old).now.schema ≡ false)
 names_free_if g old new (Err e) ran = tt
 names_free_if g old new (Ok u) ran =
-    none_used (state g old).now.schema makings
-    (names_free g makings are_makings insert_version old new
-    (in_turn g makings insert_version are_cut old new (begun g old new (Ok tt) ran)))
+    none_used (state g old).now.schema names
+    (names_free g names insert_version old new
+    (in_turn g names insert_version are_cut old new (begun g old new (Ok tt) ran)))
   where
-    none_used : (s : Schema) (ms : List Making)
-        → AllByRecursion (λ (m : Making). is_used s m.table.name ≡ false) ms
-        → list_any (λ (m : Making). is_used s m.table.name) ms ≡ false
+    none_used : (s : Schema) (ms : List Name)
+        → AllByRecursion (λ (m : Name). is_used s (table_for m).name ≡ false) ms
+        → list_any (λ (m : Name). is_used s (table_for m).name) ms ≡ false
     none_used s [] all = refl
     none_used s (m ∷ ms) all = rw (all.0) (none_used s ms all.1)

@@ -1,27 +1,15 @@
 -- Rows of a table: each has its own rowid, and what is put in and taken out.
-use Rattle.std.proofs.Common.{◌≡◌, ℤ, Bool, true, false, not, ◌||◌, List, [], ◌∷◌, ◌++◌, filter}
-use Rattle.std.proofs.Common.{refl, sym, ap, ◌∙◌, inl, inr, IsPermutation, IsTrue, Ordering, Less, Equal}
-use Rattle.std.proofs.Common.{Greater, is_eq}
-use Rattle.std.specs.List.{list_any}
-use Rattle.std.specs.Ordering.{match_ordering}
-use Rattle.std.proofs.lemmas.Bool.{and_parts}
 use Rattle.std.proofs.lemmas.Cmp.{tied_itself}
-use Rattle.std.proofs.lemmas.List.Sorted.{IsPermutation-refl, IsPermutation-sym, IsPermutation-cons}
-use Rattle.std.proofs.lemmas.List.Sorted.{IsPermutation-trans, IsPermutation-middle}
-use Rattle.std.proofs.lemmas.List.Sorted.{IsPermutation-append_right}
-use Rattle.sqlite_value.specs.declared.value.Value.{Value}
-use Rattle.sqlite_value.specs.declared.value.Value.TheVariants.{Null, Int, Real, Text, Blob}
-use Rattle.sqlite_value.specs.Order.{Row, value_cmp}
-use Rattle.sqlite_value.proofs.OrderLemmas.{value_cmp_total}
-use Rattle.sqlite_trees.specs.Tree.{IsTable, rowid, put_row, has_rowid, without_rowid}
-use Rattle.sqlite_trees.specs.View.{is_int, IsShaped}
 use Rattle.sqlite_trees.specs.declared.store.Shape.TheVariants.{Table}
-use Rattle.sqlite_trees.proofs.ListLemmas.{filter_same}
-use Rattle.sqlite_rules.specs.Lists.{Has}
-use Rattle.sqlite_rules.specs.Edit.{id_in, is_taken, are_fresh, put_all, without_all}
-use Rattle.sqlite_rules.specs.Calls.{ids_of}
-use Rattle.sqlite_rules.proofs.ListLemmas.{all_has, all_from, some_has, some_from, has_filtered, has_kept}
-use Rattle.tables.proofs.ListLemmas.{same_truth, has_permutation, has_image, image_has, filter_true, filter_neither}
+use Rattle.tables.proofs.Words.{Blob, Bool, Equal, Greater, Has, Int, IsPermutation, IsPermutation-append_right}
+use Rattle.tables.proofs.Words.{IsPermutation-cons, IsPermutation-middle, IsPermutation-refl, IsPermutation-sym}
+use Rattle.tables.proofs.Words.{IsPermutation-trans, IsShaped, IsTable, IsTrue, Less, List, Null, Ordering, Real, Row}
+use Rattle.tables.proofs.Words.{Text, Value, [], all_from, all_has, and_parts, ap, are_fresh, false, filter}
+use Rattle.tables.proofs.Words.{filter_same, has_filtered, has_kept, has_rowid, id_in, ids_of, inl, inr, is_eq, is_int}
+use Rattle.tables.proofs.Words.{is_taken, list_any, match_ordering, not, put_all, put_row, refl, rowid, some_from}
+use Rattle.tables.proofs.Words.{some_has, sym, true, value_cmp, value_cmp_total, without_all, without_rowid, ℤ, ◌++◌}
+use Rattle.tables.proofs.Words.{◌||◌, ◌∙◌, ◌∷◌, ◌≡◌}
+use Rattle.tables.proofs.ListLemmas.{filter_neither, filter_true, has_image, has_permutation, image_has, same_truth}
 
 pub put_row_is : (new : Row) (rows : List Row) → is_taken rows new ≡ false
     → IsPermutation (new ∷ rows) (put_row new rows)

@@ -1,25 +1,17 @@
 -- Trees that list a version of our schema list no other.
-use Rattle.std.proofs.Common.{◌≡◌, ℕ, zero, suc, ◌+◌, pos, true, List, [], ◌∷◌, filter, Option, Some}
-use Rattle.std.proofs.Common.{Result, Ok, Err, refl, sym, ap, ◌∙◌, subst, arith, unwrap_or, length, nat_le}
-use Rattle.std.specs.List.{AllByRecursion, AllZip, find, slice_get, list_all}
+use Rattle.std.proofs.Common.{unwrap_or}
+use Rattle.std.specs.List.{find, slice_get}
 use Rattle.std.specs.Str.{bytes_eq}
-use Rattle.sqlite_value.specs.declared.value.Value.{Value}
-use Rattle.sqlite_value.specs.declared.value.Value.TheVariants.{Null, Int, Real, Text, Blob}
-use Rattle.sqlite_value.specs.Order.{Row, column}
-use Rattle.sqlite_trees.specs.Tree.{rowid}
 use Rattle.sqlite_trees.specs.Objects.{catalog_tree}
-use Rattle.sqlite_schema.specs.declared.schema.Table.{Table}
-use Rattle.sqlite_schema.specs.declared.schema.Index.{Index}
-use Rattle.sqlite_schema.specs.declared.schema.Schema.{Schema}
 use Rattle.sqlite_schema.specs.declared.schema.View.{View}
-use Rattle.sqlite_rules.specs.Lists.{Has}
-use Rattle.sqlite_rules.proofs.ListLemmas.{all_has, test_has}
-use Rattle.sqlite_catalog.specs.Listing.{IsTableRow, IsIndexRow, IsViewRow, IsDefined, AreListed}
-use Rattle.sqlite_catalog.specs.Listing.{is_table_row, is_index_row, is_view_row}
-use Rattle.sqlite.specs.Effect.{Database, IsDatabase}
-use Rattle.tables.specs.Schema.{schema_of, the_schema, meta}
+use Rattle.tables.proofs.Words.{AllByRecursion, AllZip, AreListed, Blob, Database, Err, Has, Index, Int, IsDatabase}
+use Rattle.tables.proofs.Words.{IsDefined, IsIndexRow, IsTableRow, IsViewRow, List, Null, Ok, Option, Real, Result, Row}
+use Rattle.tables.proofs.Words.{Schema, Some, Table, Text, Value, [], all_has, ap, arith, column, filter, is_index_row}
+use Rattle.tables.proofs.Words.{is_table_row, is_view_row, length, list_all, nat_le, pos, refl, rowid, subst, suc, sym}
+use Rattle.tables.proofs.Words.{test_has, true, zero, ℕ, ◌+◌, ◌∙◌, ◌∷◌, ◌≡◌}
+use Rattle.tables.specs.Layout.{IsDatabaseIn, IsDatabaseOf, IsStored, IsStoredIn}
+use Rattle.tables.specs.Schema.{meta, schema_of, the_schema}
 use Rattle.tables.specs.Tables.{Tables}
-use Rattle.tables.specs.Layout.{IsStored, IsDatabaseOf, IsStoredIn, IsDatabaseIn}
 use Rattle.tables.specs.Versions.{number_of}
 use Rattle.tables.specs.declared.version.Version.{Version}
 use Rattle.tables.specs.declared.version.Version.TheVariants as version
@@ -125,40 +117,29 @@ module _ (ours : Schema) (named : AllByRecursion (λ (t : Table). table_called o
       ap (λ vs. record { tables = ours.tables; indexes = ours.indexes; views = vs }) viewless in
       one ∙ rw (tables, indexes, views) (sym whole)
 
-ours_named : AllByRecursion (λ (t : Table). table_called the_schema t.name ≡ t) the_schema.tables
-ours_named = (refl, (refl, (refl, (refl, (refl, (refl, (refl, (refl, (refl, tt)))))))))
-
-first_named : AllByRecursion (λ (t : Table). table_called (schema_of 1) t.name ≡ t) (schema_of 1).tables
-first_named = (refl, (refl, (refl, (refl, (refl, (refl, (refl, tt)))))))
-
-second_named : AllByRecursion (λ (t : Table). table_called (schema_of 2) t.name ≡ t) (schema_of 2).tables
-second_named = (refl, (refl, (refl, (refl, (refl, (refl, (refl, (refl, tt))))))))
+-- each version's
+ours : (v : Version) → let s = schema_of (number_of v) in
+    AllByRecursion (λ (t : Table). table_called s t.name ≡ t) s.tables
+    × (list_all (λ (t : Table). nat_le (length t.uniques) 1) s.tables ≡ true) × (s.views ≡ [])
+ours version.First = ((refl, (refl, (refl, (refl, (refl, (refl, (refl, tt))))))), refl, refl)
+ours version.Second = ((refl, (refl, (refl, (refl, (refl, (refl, (refl, (refl, tt)))))))), refl, refl)
+ours version.Current = ((refl, (refl, (refl, (refl, (refl, (refl, (refl, (refl, (refl, tt))))))))), refl, refl)
 
 -- a database in whose trees the tables are stored is one of them
-pub database_of_stored : (t : Tables) (d : Database) → IsDatabase d → IsStored t d.trees → IsDatabaseOf t d
-database_of_stored t d sound stored = record {
-  schema = schema_once the_schema ours_named refl refl (d.trees catalog_tree) d.schema stored.listed.lists.listed
-      sound.lists.listed;
-  holds = stored.holds;
-}
-
 pub earlier_of_stored : (v : Version) (t : Tables) (d : Database) → IsDatabase d → IsStoredIn (number_of v) t d.trees
     → IsDatabaseIn (number_of v) t d
-earlier_of_stored version.First t d sound stored = record {
-  schema = schema_once (schema_of 1) first_named refl refl (d.trees catalog_tree) d.schema stored.listed.lists.listed
-      sound.lists.listed;
+earlier_of_stored v t d sound stored = record {
+  schema = schema_once (schema_of (number_of v)) (ours v).0 (ours v).1 (ours v).2 (d.trees catalog_tree) d.schema
+      stored.listed.lists.listed sound.lists.listed;
   holds = stored.holds;
   later = stored.later;
 }
-earlier_of_stored version.Second t d sound stored = record {
-  schema = schema_once (schema_of 2) second_named refl refl (d.trees catalog_tree) d.schema stored.listed.lists.listed
-      sound.lists.listed;
-  holds = stored.holds;
-  later = stored.later;
-}
-earlier_of_stored version.Current t d sound stored = record {
-  schema = schema_once the_schema ours_named refl refl (d.trees catalog_tree) d.schema stored.listed.lists.listed
-      sound.lists.listed;
-  holds = stored.holds;
-  later = stored.later;
-}
+
+pub database_of_stored : (t : Tables) (d : Database) → IsDatabase d → IsStored t d.trees → IsDatabaseOf t d
+database_of_stored t d sound stored =
+    let now = ours version.Current in
+    record {
+      schema = schema_once the_schema now.0 now.1 now.2 (d.trees catalog_tree) d.schema stored.listed.lists.listed
+          sound.lists.listed;
+      holds = stored.holds;
+    }

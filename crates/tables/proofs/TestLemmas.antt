@@ -1,15 +1,9 @@
 -- What the tests of WHERE say of the cells of a row.
-use Rattle.std.proofs.Common.{◌≡◌, ℕ, ℤ, pos, Bool, true, false, ◌==◌, Some, List, refl, ap}
-use Rattle.std.proofs.Common.{◌∙◌, arith, is_eq, is_le, is_gt, is_ge, int_cmp, nat_le, nat_lt}
-use Rattle.std.specs.Prelude.{bytes_eq, int_le, int_lt}
-use Rattle.std.proofs.lemmas.Bool.Decides.{nat_tests}
+use Rattle.std.specs.Prelude.{bytes_eq}
 use Rattle.std.proofs.lemmas.Map.Text.{is_eq-slice_cmp}
-use Rattle.sqlite_value.specs.declared.value.Value.TheVariants.{Int, Text}
-use Rattle.sqlite_value.specs.declared.keys.Collation.TheVariants.{Binary}
-use Rattle.sqlite_value.proofs.OrderLemmas.{value_cmp-Int, value_cmp-Text}
-use Rattle.sqlite_sql.specs.declared.ops.CompareOp.TheVariants.{Eq, Le, Gt, Ge}
-use Rattle.sqlite_sql.specs.declared.ops.BinaryOp.TheVariants.{Compare, Is}
-use Rattle.sqlite_sql.specs.Ops.{binary, is_true, from_truth}
+use Rattle.tables.proofs.Words.{Binary, Bool, Compare, Eq, Ge, Gt, Int, Is, Le, List, Some, Text, ap, arith, binary}
+use Rattle.tables.proofs.Words.{false, from_truth, int_cmp, int_le, int_lt, is_eq, is_ge, is_gt, is_le, is_true, nat_le}
+use Rattle.tables.proofs.Words.{nat_lt, nat_tests, pos, refl, true, value_cmp-Int, value_cmp-Text, ℕ, ℤ, ◌==◌, ◌∙◌, ◌≡◌}
 
 said_truth : (b : Bool) → is_true (from_truth (Some b)) ≡ b
 said_truth true = refl

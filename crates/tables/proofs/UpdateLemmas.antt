@@ -1,37 +1,17 @@
 -- UPDATE and DELETE in one table, in terms of what its rows say.
-use Rattle.std.proofs.Common.{◌≡◌, ◌≢◌, ℕ, ℤ, Bool, true, not, cond, List, [], ◌∷◌, map, filter}
-use Rattle.std.proofs.Common.{drop, length, slice_get, Option, Some, None, Ok, refl, sym, ap, ◌∙◌, subst, IsPermutation}
-use Rattle.std.proofs.lemmas.Bool.{and_parts}
-use Rattle.std.proofs.lemmas.List.Sorted.{IsPermutation-map, length_permutation}
-use Rattle.std.proofs.lemmas.List.{length-map}
-use Rattle.sqlite_rules.specs.declared.error.Rowids.TheVariants.{Given}
-use Rattle.sqlite_value.specs.declared.value.Value.{Value}
-use Rattle.sqlite_value.specs.declared.keys.Order.{Order}
-use Rattle.sqlite_value.specs.Order.{Row}
-use Rattle.sqlite_trees.specs.Tree.{Trees, rowid}
-use Rattle.sqlite_trees.proofs.ListLemmas.{map-map}
-use Rattle.sqlite_sql.specs.Term.{Term, col}
 use Rattle.sqlite_schema.specs.declared.schema.Constraint.TheVariants.{Datatype}
-use Rattle.sqlite_schema.specs.declared.schema.Column.{Column}
-use Rattle.sqlite_schema.specs.declared.schema.Reference.{Reference}
-use Rattle.sqlite_schema.specs.declared.schema.Table.{Table}
-use Rattle.sqlite_schema.specs.declared.schema.Schema.{Schema}
-use Rattle.sqlite_schema.specs.declared.command.Command.TheVariants.{Update, Delete}
-use Rattle.sqlite_schema.specs.Rules.{are_typed}
-use Rattle.sqlite_rules.specs.Cast.{cast_row}
-use Rattle.sqlite_rules.specs.Lists.{Has}
-use Rattle.sqlite_rules.specs.Edit.{id_in, edit_of, without_all, put_all, have_rowids, are_fresh}
-use Rattle.sqlite_rules.specs.Calls.{ids_of}
-use Rattle.sqlite_rules.proofs.ListLemmas.{has_got}
 use Rattle.sqlite_rules.proofs.RuleLemmas.{keeps_at}
 use Rattle.sqlite_rules.proofs.TableLemmas.{put_all_adds}
-use Rattle.sqlite.specs.Does.{Tally, Does}
-use Rattle.sqlite.specs.Effect.{Database, Answers}
+use Rattle.tables.proofs.Words.{Answers, Bool, Column, Database, Delete, Does, Given, Has, IsPermutation}
+use Rattle.tables.proofs.Words.{IsPermutation-map, List, None, Ok, Option, Order, Reference, Row, Schema, Some, Table}
+use Rattle.tables.proofs.Words.{Tally, Term, Trees, Update, Value, [], and_parts, ap, are_fresh, are_typed, cast_row}
+use Rattle.tables.proofs.Words.{col, cond, drop, edit_of, filter, has_got, have_rowids, id_in, ids_of, length}
+use Rattle.tables.proofs.Words.{length-map, length_permutation, map, map-map, not, put_all, refl, rowid, slice_get}
+use Rattle.tables.proofs.Words.{subst, sym, true, without_all, ℕ, ℤ, ◌∙◌, ◌∷◌, ◌≡◌, ◌≢◌}
 use Rattle.tables.specs.Layout.{AreRows, said}
-use Rattle.tables.proofs.WriteLemmas.{IsIdle, plain_mode, its_table, OthersHold, updates, deletes}
-use Rattle.tables.proofs.WriteLemmas.{Makes as MakesEdit}
-use Rattle.tables.proofs.ReadLemmas.{program_of, no_limit, passes, shows, answered}
-use Rattle.tables.proofs.ChangeLemmas.{raw, numbered_given, updated, deleted, found_are, changed_there}
+use Rattle.tables.proofs.ChangeLemmas.{changed_there, deleted, found_are, numbered_given, raw, updated}
+use Rattle.tables.proofs.ReadLemmas.{answered, no_limit, passes, program_of, shows}
+use Rattle.tables.proofs.WriteLemmas.{IsIdle, Makes as MakesEdit, OthersHold, deletes, its_table, plain_mode, updates}
 
 module _ {X : Type 0} (cells : X → Row) (some : (x : X) → cells x ≢ []) (limit : Option ℕ) (params : Row)
     (schema : Schema) (db : Trees) (text : List ℕ) (at : ℕ) (idle : IsIdle schema)

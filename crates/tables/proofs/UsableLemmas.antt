@@ -1,8 +1,6 @@
 -- A call leaves a connection as usable as it was.
-use Rattle.std.proofs.Common.{◌∙◌, inl, inr, arith}
-use Rattle.sqlite_trees.specs.Tree.{Trees}
-use Rattle.sqlite.specs.State.{State, HasCleanDisk, Survives}
-use Rattle.tables.specs.QueryAnswers.{StaysUsable, Looks}
+use Rattle.tables.proofs.Words.{HasCleanDisk, State, Survives, Trees, arith, inl, inr, ◌∙◌}
+use Rattle.tables.specs.QueryAnswers.{Looks, StaysUsable}
 
 pub survivor_usable : (old new : State) (Commits : Trees → Type 0) → Survives old new Commits → StaysUsable old new
 survivor_usable old new Commits s = record { counts = s.counts; stays = s.closes; limit = s.limit }

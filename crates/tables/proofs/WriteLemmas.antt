@@ -1,34 +1,17 @@
 -- What INSERT makes of a table in any schema, and UPDATE and DELETE in one whose references have no action.
-use Rattle.std.proofs.Common.{◌≡◌, ◌≢◌, ◌⊎◌, ℕ, ◌/◌, ◌==◌, Bool, true, false, List, [], ◌∷◌, length, slice_get}
-use Rattle.std.proofs.Common.{Option, Some, None, Result, Ok, Err, refl, sym, ap, ◌∙◌, subst, inl, inr, append-nil}
-use Rattle.std.specs.List.{AllByRecursion, filter_map, flat_map}
-use Rattle.std.proofs.lemmas.Bool.{cases_Bool}
-use Rattle.sqlite_value.specs.Order.{Row}
-use Rattle.sqlite_value.specs.declared.keys.Order.{Order}
-use Rattle.sqlite_trees.specs.Tree.{Trees}
-use Rattle.sqlite_sql.specs.Term.{Term}
+use Rattle.std.specs.List.{flat_map}
 use Rattle.sqlite_schema.specs.declared.schema.Action.TheVariants.{NoAction}
 use Rattle.sqlite_schema.specs.declared.schema.Keys.TheVariants.{Enforced}
-use Rattle.sqlite_schema.specs.declared.schema.Column.{Column}
-use Rattle.sqlite_schema.specs.declared.schema.Reference.{Reference}
-use Rattle.sqlite_schema.specs.Rules.{ParentKey, parent_key}
-use Rattle.sqlite_schema.specs.declared.schema.Table.{Table}
-use Rattle.sqlite_schema.specs.declared.schema.Schema.{Schema}
-use Rattle.sqlite_schema.specs.declared.program.Program.{Program}
-use Rattle.sqlite_schema.specs.declared.command.Source.TheVariants.{Values}
-use Rattle.sqlite_schema.specs.declared.command.Command.{Command}
-use Rattle.sqlite_schema.specs.declared.command.Command.TheVariants.{Insert, Update, Delete}
-use Rattle.sqlite_rules.specs.declared.error.Rowids.TheVariants.{Chosen, Given}
-use Rattle.sqlite_rules.specs.Edit.{Edit, edit_of, taken_by, Applies}
-use Rattle.sqlite_rules.specs.Action.{works, work_for, work_by, pairs, deed_for}
+use Rattle.sqlite_rules.specs.Action.{deed_for, pairs, work_by, work_for, works}
 use Rattle.sqlite_rules.specs.declared.action.Deed.{Deed}
-use Rattle.sqlite_rules.specs.Calls.{ids_of}
-use Rattle.sqlite.specs.declared.run.Mode.{Mode}
-use Rattle.sqlite.specs.Effect.{Database, Answers, value_rows}
-use Rattle.sqlite.specs.Rows.{Written, Task, Edited}
-use Rattle.sqlite.specs.Does.{Tally, Does, OnRows, WritesRows, OnTable, AtPlace}
-use Rattle.sqlite.proofs.Callers.{one_step}
-use Rattle.tables.specs.Schema.{table_of, placed}
+use Rattle.tables.proofs.Words.{AllByRecursion, Answers, Applies, AtPlace, Bool, Chosen, Column, Command, Database}
+use Rattle.tables.proofs.Words.{Delete, Does, Edit, Edited, Err, Given, Insert, List, Mode, None, Ok, OnRows, OnTable}
+use Rattle.tables.proofs.Words.{Option, Order, ParentKey, Program, Reference, Result, Row, Schema, Some, Table, Tally}
+use Rattle.tables.proofs.Words.{Task, Term, Trees, Update, Values, WritesRows, Written, [], ap, append-nil, cases_Bool}
+use Rattle.tables.proofs.Words.{edit_of, false, filter_map, ids_of, inl, inr, length, one_step, parent_key, refl}
+use Rattle.tables.proofs.Words.{slice_get, subst, sym, taken_by, true, value_rows, ℕ, ◌/◌, ◌==◌, ◌∙◌, ◌∷◌, ◌≡◌, ◌≢◌}
+use Rattle.tables.proofs.Words.{◌⊎◌}
+use Rattle.tables.specs.Schema.{placed, table_of}
 
 -- no reference does anything where its parent goes or changes
 abbrev pub IsIdle : Schema → Type 0
@@ -85,7 +68,7 @@ none_taken_works schema tree news = go schema.tables
     go (t ∷ ts) = rw (of_child t t.references, go ts) refl
 
 -- a part that gave a value did not stop on the way
-went : {B E R : Type 0} {b : B} {Stops : E → Type 0} → ((stop : E) × Stops stop × (Ok b ≡ Err stop)) ⊎ R → R
+pub went : {B E R : Type 0} {b : B} {Stops : E → Type 0} → ((stop : E) × Stops stop × (Ok b ≡ Err stop)) ⊎ R → R
 went (inl stopped) = absurd (let e = stopped.2 in cc)
 went (inr on) = on
 
@@ -95,7 +78,7 @@ OthersHold schema db tree out =
     AllByRecursion (λ (t : Table). t.tree ≢ tree → out.1.trees t.tree ≡ db t.tree) schema.tables
     × (out.1.schema ≡ schema)
 
-same_ok : {B E : Type 0} {a b : B} → ◌≡◌ {A = Result B E} (Ok a) (Ok b) → a ≡ b
+pub same_ok : {B E : Type 0} {a b : B} → ◌≡◌ {A = Result B E} (Ok a) (Ok b) → a ≡ b
 same_ok e = cc
 
 abbrev pub plain_mode : Mode

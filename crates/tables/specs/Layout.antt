@@ -1,7 +1,7 @@
 -- When a database holds the tables. A row of a database is its own number, the rowid, and then its columns. An INTEGER
 -- PRIMARY KEY is the rowid itself, and its column is kept as NULL. Other tables have a rowid that says nothing.
-use Rattle.std.specs.Prelude.{◌≡◌, ◌<◌, ◌^◌, ℕ, pos, Bool, true, false, List, [], ◌∷◌, map, drop, Option, Some, None}
-use Rattle.std.specs.Prelude.{IsPermutation, IsTrue, nat_le, nat_lt}
+use Rattle.std.specs.Prelude.{◌≡◌, ◌<◌, ◌^◌, ℕ, pos, Bool, true, false, List, [], ◌∷◌, map, filter, length, drop}
+use Rattle.std.specs.Prelude.{Option, Some, None, IsPermutation, IsTrue, nat_le, nat_lt}
 use Rattle.std.specs.List.{AllByRecursion}
 use Rattle.sqlite_value.specs.declared.value.Value.{Value}
 use Rattle.sqlite_value.specs.declared.value.Value.TheVariants.{Null, Int, Text, Blob}
@@ -11,9 +11,9 @@ use Rattle.sqlite_trees.specs.View.{IsShaped}
 use Rattle.sqlite_trees.specs.Tree.{Trees}
 use Rattle.sqlite_catalog.specs.Listing.{IsSound}
 use Rattle.sqlite.specs.Effect.{Database}
-use Rattle.tables.specs.Names.{Name}
+use Rattle.tables.specs.Names.{Name, names}
 use Rattle.tables.specs.Names as name
-use Rattle.tables.specs.Schema.{schema_of, the_schema, the_version}
+use Rattle.tables.specs.Schema.{first_version, schema_of, the_schema, the_version}
 use Rattle.tables.specs.Tables.{StampRow, CalibrationRow, HoldRow, DepositRow, ReaderRow, TallyRow, InstalledRow, Tables}
 
 abbrev pub token_cell : Option (List ℕ) → Value
@@ -87,14 +87,10 @@ cells_of name.Identity = identity_cells
 -- whether its rowid is its key
 abbrev pub is_keyed : Name → Bool
 is_keyed name.Meta = false
-is_keyed name.Stamp = true
-is_keyed name.Calibration = true
-is_keyed name.Hold = true
-is_keyed name.Deposit = true
 is_keyed name.Reader = false
 is_keyed name.Tally = false
 is_keyed name.GroupReader = false
-is_keyed name.Identity = true
+is_keyed _ = true
 
 -- the tree of its rows: 5, 7, 9 and 11 are of the indexes of the tables before them
 abbrev pub tree_of : Name → ℕ
@@ -108,17 +104,9 @@ tree_of name.Tally = 8
 tree_of name.GroupReader = 10
 tree_of name.Identity = 12
 
--- the version of the schema that has it first
-abbrev pub first_version : Name → ℕ
-first_version name.Meta = 1
-first_version name.Stamp = 1
-first_version name.Calibration = 1
-first_version name.Hold = 1
-first_version name.Deposit = 1
-first_version name.Reader = 1
-first_version name.Tally = 1
-first_version name.GroupReader = 2
-first_version name.Identity = 3
+-- its place among the tables of the schema
+abbrev pub place_of : Name → ℕ
+place_of n = length (filter (λ other. nat_lt (tree_of other) (tree_of n)) names)
 
 -- its rows where the schema has this version
 abbrev pub rows_of : ℕ → (n : Name) → Tables → List (RowOf n)

@@ -1,6 +1,5 @@
 pub mod Base
 pub mod Changes
-pub mod Creation
 pub mod Faults
 pub mod Found
 pub mod Layout
@@ -9,9 +8,7 @@ pub mod Names
 pub mod Queries
 pub mod QueryAnswers
 pub mod Schema
-pub mod Shown
-pub mod Statements
-pub mod Steps
 pub mod Tables
 pub mod Transaction
 pub mod Versions
+pub mod auxiliary

@@ -1,4 +1,5 @@
 -- The tables by their names.
+use Rattle.std.specs.Prelude.{List, [], ◌∷◌}
 
 pub data Name : Type 0 where
   Meta : Name
@@ -10,3 +11,7 @@ pub data Name : Type 0 where
   Tally : Name
   GroupReader : Name
   Identity : Name
+
+-- in the order in which they are made
+abbrev pub names : List Name
+names = Meta ∷ Stamp ∷ Calibration ∷ Hold ∷ Deposit ∷ Reader ∷ Tally ∷ GroupReader ∷ Identity ∷ []

@@ -6,7 +6,7 @@ use Rattle.sqlite_value.specs.Order.{Row}
 use Rattle.sqlite.specs.Held.{state}
 use Rattle.sqlite_trees.specs.Tree.{Trees}
 use Rattle.sqlite_trees.specs.declared.store.Store.{Ghosts}
-use Rattle.tables.specs.QueryAnswers.{StaysUsable, TellsFirst, TellsRows, IsReadAs, AreReadAs}
+use Rattle.tables.specs.QueryAnswers.{IsQueryText, StaysUsable, TellsFirst, TellsRows, IsReadAs, AreReadAs}
 use Rattle.tables.specs.Changes.{IsCounted}
 use Rattle.tables.specs.Layout.{Holds}
 use Rattle.tables.specs.Tables.{Tables, StampRow, CalibrationRow, HoldRow, TallyRow, DepositRow, ReaderRow}
@@ -39,16 +39,16 @@ pub record LooksUp {S X : Type 0} (g : Ghosts S) (Tells : Tables → X → Type 
   pub counted : IfErr result (λ e. IsCounted e old.faults new.faults)
   pub uncounted : OnOk result (new.faults ≡ old.faults)
 
--- what a query's first row tells of the tables, and what is read of it
+-- what a query's first row tells of the tables, where the text reads them alone, and what is read of it
 abbrev pub TellsRow : List ℕ → Row → Tables → Option Row → Type 0
-TellsRow sql params t row = (db : Trees) × Holds t db × TellsFirst sql params db row
+TellsRow sql params t row = (db : Trees) × Holds t db × (IsQueryText sql → TellsFirst sql params db row)
 
 abbrev pub TellsAs : {Y : Type 0} → (Row → Y → Type 0) → List ℕ → Row → Tables → Option Y → Type 0
 TellsAs Shows sql params t found = (row : Option Row) × TellsRow sql params t row × IsReadAs Shows row found
 
 -- and all its rows
 abbrev pub TellsAll : List ℕ → Row → Tables → List Row → Type 0
-TellsAll sql params t rows = (db : Trees) × Holds t db × TellsRows sql params db rows
+TellsAll sql params t rows = (db : Trees) × Holds t db × (IsQueryText sql → TellsRows sql params db rows)
 
 abbrev pub TellsAllAs : {Y : Type 0} → (Row → Y → Type 0) → List ℕ → Row → Tables → List Y → Type 0
 TellsAllAs Shows sql params t found = (rows : List Row) × TellsAll sql params t rows × AreReadAs Shows rows found

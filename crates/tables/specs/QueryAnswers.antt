@@ -1,5 +1,6 @@
 -- What a query tells, asked in a transaction of its own that is undone.
-use Rattle.std.specs.Prelude.{◌≡◌, ◌⊎◌, ℕ, pos, ◌≤◌, false, List, [], ◌∷◌, IsTrue, Option, None, Some, Ok, unwrap_or}
+use Rattle.std.specs.Prelude.{◌≡◌, ◌⊎◌, ℕ, pos, ◌≤◌, false, List, [], ◌∷◌, IsTrue, Option, None, Some, Ok, Result}
+use Rattle.std.specs.Prelude.{OnOk, unwrap_or}
 use Rattle.std.specs.List.{slice_get}
 use Rattle.sqlite_disk.specs.Disk.{MoreFaults}
 use Rattle.sqlite_value.specs.declared.value.Value.TheVariants.{Int}
@@ -10,7 +11,8 @@ use Rattle.sqlite_resolve.specs.declared.compiled.Compiled.{Compiled}
 use Rattle.sqlite.specs.Effect.{Database, Reads}
 use Rattle.sqlite.specs.Given.{IsPlain}
 use Rattle.sqlite.specs.Listing.{understood, reads_listing, IsSourceOf}
-use Rattle.sqlite.specs.State.{State, HasCleanDisk}
+use Rattle.sqlite.specs.State.{State, HasCleanDisk, Survives, KeepsCommit}
+use Rattle.sqlite.specs.declared.error.Error.{Error}
 use Rattle.sqlite.proofs.Callers.{command_of}
 use Rattle.tables.specs.Schema.{the_schema}
 
@@ -33,6 +35,12 @@ abbrev pub Answers : List ℕ → Row → Database → List Row → Type 0
 Answers sql params d rows =
     (c : Compiled) × (understood d.schema sql ≡ Ok c) × (source : Database)
     × IsSourceOf (reads_listing d.schema sql) d source × Reads c.command source params rows
+
+-- a query inside a transaction, whatever its text, commits nothing
+pub record AsksInside {X : Type 0} (old new : State) (result : Result X Error) : Type 0 where
+  pub survives : Survives old new (λ _. ⊥)
+  pub kept : HasCleanDisk new → IsTrue old.in_transaction → KeepsCommit old new
+  pub opened : HasCleanDisk new → IsTrue old.in_transaction → OnOk result (IsTrue old.is_open)
 
 -- an open connection stays open, unless the disk failed or refused meanwhile, and later queries may take as many steps
 -- as before

@@ -12,6 +12,8 @@ use Rattle.sqlite_schema.specs.declared.schema.Reference.{Reference}
 use Rattle.sqlite_schema.specs.declared.schema.Table.{Table}
 use Rattle.sqlite_schema.specs.declared.schema.Schema.{Schema}
 use Rattle.sqlite_catalog.specs.Change.{created}
+use Rattle.tables.specs.Names.{Name, names}
+use Rattle.tables.specs.Names as name
 
 abbrev pub key : List ℕ → Column
 key name = record {
@@ -102,16 +104,33 @@ tally = table_of (codes "tally") (required (codes "account") Text ∷ required (
     ∷ required (codes "count") Integer ∷ [])
     None (1 ∷ 2 ∷ []) ((1 ∷ 2 ∷ []) ∷ []) (plain ∷ []) []
 
--- since the second version
 abbrev pub group_reader : Table
 group_reader = right_table (codes "group_reader") (codes "name")
 
--- since the third
 abbrev pub identity : Table
 identity = table_of (codes "identity")
     (key (codes "n") ∷ required (codes "after_serial") Integer ∷ required (codes "certificate") Blob
     ∷ required (codes "chain") Blob ∷ [])
     (Some 0) (0 ∷ []) [] [] []
+
+-- ---- each table by its name
+
+abbrev pub table_for : Name → Table
+table_for name.Meta = meta
+table_for name.Stamp = stamp
+table_for name.Calibration = calibration
+table_for name.Hold = hold
+table_for name.Deposit = deposit
+table_for name.Reader = reader
+table_for name.Tally = tally
+table_for name.GroupReader = group_reader
+table_for name.Identity = identity
+
+-- the version of the schema that has it first
+abbrev pub first_version : Name → ℕ
+first_version name.GroupReader = 2
+first_version name.Identity = 3
+first_version _ = 1
 
 -- the schema, as it is after each of these tables is made
 
@@ -122,14 +141,8 @@ abbrev pub schema_after : List Table → Schema → Schema
 schema_after [] before = before
 schema_after (table ∷ more) before = schema_after more (created before table)
 
--- each table, with the version of the schema that has it first
-abbrev pub tables_by_version : List (ℕ × Table)
-tables_by_version =
-    (1, meta) ∷ (1, stamp) ∷ (1, calibration) ∷ (1, hold) ∷ (1, deposit) ∷ (1, reader) ∷ (1, tally) ∷ (2, group_reader)
-    ∷ (3, identity) ∷ []
-
 abbrev pub schema_of : ℕ → Schema
-schema_of version = schema_after (map (λ p. p.1) (filter (λ p. nat_le p.0 version) tables_by_version)) no_schema
+schema_of version = schema_after (map table_for (filter (λ n. nat_le (first_version n) version) names)) no_schema
 
 -- the version of now, as the one row of `meta` says it
 abbrev pub the_version : ℕ

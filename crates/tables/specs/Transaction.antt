@@ -39,19 +39,6 @@ module _ (Before : Tables → Database → Type 0) (Known : Type 0) where
         → old.may_leave db ⊎ ((Known → IsTrue old.is_open) × ((t : Tables) → Before t old.now → IsStored (step t) db))
     pub usable : StaysUsable old new
 
--- the same from what is known of the tables before to what is known of them then
-module _ (Before After : Tables → Database → Type 0) where
-  pub record IsLed (old new : State) : Type 0 where
-    pub was_open : IsTrue old.is_open
-    pub inside : IsTrue new.in_transaction
-    pub goes : (t : Tables) → Before t old.now → After t new.now
-    pub sound : (t : Tables) → Before t old.now → IsDatabase new.now
-
-  pub record LeadsOn {X : Type 0} (old new : State) (result : Result X Error) : Type 0 where
-    pub survives : Survives old new (λ _. ⊥)
-    pub kept : HasCleanDisk new → IsTrue old.in_transaction → KeepsCommit old new
-    pub ok : HasCleanDisk new → IsTrue old.in_transaction → OnOk result (IsLed old new)
-
 -- a sound database of the tables
 pub record IsSoundOf (t : Tables) (d : Database) : Type 0 where
   pub database : IsDatabaseOf t d

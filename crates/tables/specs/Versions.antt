@@ -1,5 +1,5 @@
 -- When a connection's tables are taken for ours.
-use Rattle.std.specs.Prelude.{◌≡◌, ◌⊎◌, ℕ, pos, Bool, true, false, List, [], ◌∷◌, codes, Result, Ok, Err, ⊤, IsTrue}
+use Rattle.std.specs.Prelude.{◌≡◌, ◌⊎◌, ℕ, pos, Bool, true, false, List, [], ◌∷◌, Result, Ok, Err, ⊤, IsTrue}
 use Rattle.std.specs.Prelude.{Option, None, Some, ◌≢◌, ◌≤◌, length}
 use Rattle.std.specs.List.{list_any}
 use Rattle.sqlite_value.specs.declared.value.Value.TheVariants.{Int}
@@ -23,20 +23,21 @@ use Rattle.tables.specs.Changes.{applied_all}
 use Rattle.tables.specs.Schema.{no_schema, the_schema, the_version}
 use Rattle.tables.specs.Tables.{Tables, no_rows}
 use Rattle.tables.specs.Layout.{IsDatabaseOf, IsDatabaseIn}
+use Rattle.tables.specs.declared.version.TheConstants.{ALL_COLUMNS, SECOND_COLUMNS, FIRST_COLUMNS, VERSION}
 use Rattle.tables.specs.declared.version.Version.{Version}
 use Rattle.tables.specs.declared.version.Version.TheVariants as version
 
 -- a query over each table and each column of the version of now
 abbrev pub all_columns : List ℕ
-all_columns = codes "SELECT meta.version, stamp.serial, stamp.account, stamp.day, stamp.gen, stamp.policy, stamp.algorithm, stamp.digest, stamp.request, stamp.tst, stamp.token, calibration.n, calibration.reading, calibration.offset_us, calibration.uncertainty, hold.n, hold.from_us, hold.to_us, deposit.serial, deposit.owner, deposit.reference, deposit.bytes, reader.serial, reader.account, tally.account, tally.day, tally.count, group_reader.serial, group_reader.name, identity.n, identity.after_serial, identity.certificate, identity.chain FROM meta, stamp, calibration, hold, deposit, reader, tally, group_reader, identity"
+all_columns = ALL_COLUMNS.now
 
 -- the same of the second version
 abbrev pub second_columns : List ℕ
-second_columns = codes "SELECT meta.version, stamp.serial, stamp.account, stamp.day, stamp.gen, stamp.policy, stamp.algorithm, stamp.digest, stamp.request, stamp.tst, stamp.token, calibration.n, calibration.reading, calibration.offset_us, calibration.uncertainty, hold.n, hold.from_us, hold.to_us, deposit.serial, deposit.owner, deposit.reference, deposit.bytes, reader.serial, reader.account, tally.account, tally.day, tally.count, group_reader.serial, group_reader.name FROM meta, stamp, calibration, hold, deposit, reader, tally, group_reader"
+second_columns = SECOND_COLUMNS.now
 
 -- and of the first
 abbrev pub first_columns : List ℕ
-first_columns = codes "SELECT meta.version, stamp.serial, stamp.account, stamp.day, stamp.gen, stamp.policy, stamp.algorithm, stamp.digest, stamp.request, stamp.tst, stamp.token, calibration.n, calibration.reading, calibration.offset_us, calibration.uncertainty, hold.n, hold.from_us, hold.to_us, deposit.serial, deposit.owner, deposit.reference, deposit.bytes, reader.serial, reader.account, tally.account, tally.day, tally.count FROM meta, stamp, calibration, hold, deposit, reader, tally"
+first_columns = FIRST_COLUMNS.now
 
 -- that of a version
 abbrev pub columns_of : Version → List ℕ
@@ -52,7 +53,7 @@ number_of version.Current = 3
 
 -- the one row of `meta` is asked for
 abbrev pub version_query : List ℕ
-version_query = codes "SELECT version FROM meta"
+version_query = VERSION.now
 
 abbrev pub IsUnderstood : Result Compiled CompileError → Type 0
 IsUnderstood (Ok c) = ⊤

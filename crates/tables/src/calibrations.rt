@@ -77,8 +77,7 @@ impl<S: Alter + Drop> Base<S> {
         ensures { LooksUp S.Store (λ t c. IsFoundAs ShowsCalibration (is_calibration number) t.calibrations c)
             self.old self.new result }
     {
-        let number = self.column(number)?;
-        self.first_as(CALIBRATION, &[number])
+        self.first_at(CALIBRATION, number)
     }
 
     /// The calibration with the greatest number.

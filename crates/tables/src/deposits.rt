@@ -59,7 +59,7 @@ pub(crate) fn put_deposit<S: Alter>(
 impl FromRow for Deposit {
     ghost use Rattle.std.specs.Prelude.{◌≡◌};
     ghost use Rattle.tables.specs.Queries.{deposit_view};
-    ghost use Rattle.tables.specs.Shown.{deposit_shown};
+    ghost use Rattle.tables.specs.auxiliary.Shown.{deposit_shown};
     ghost use Rattle.tables.specs.Tables.{DepositRow};
 
     ghost shows = { λ row d. (x : DepositRow) → row ≡ deposit_shown x → deposit_view d ≡ x };
@@ -81,7 +81,7 @@ impl FromRow for Deposit {
 impl FromRow for Label {
     ghost use Rattle.std.specs.Prelude.{◌≡◌};
     ghost use Rattle.tables.specs.Queries.{label_view};
-    ghost use Rattle.tables.specs.Shown.{label_in};
+    ghost use Rattle.tables.specs.auxiliary.Shown.{label_in};
 
     ghost shows = { λ row label. label_view label ≡ label_in row };
 
@@ -98,8 +98,7 @@ impl<S: Alter + Drop> Base<S> {
         ensures { LooksUp S.Store (λ t found. IsFoundAs ShowsDeposit (is_deposit serial) t.deposits found)
             self.old self.new result }
     {
-        let serial = self.column(serial)?;
-        self.first_as(DEPOSIT, &[serial])
+        self.first_at(DEPOSIT, serial)
     }
 
     /// The deposit of the owner under the reference.

@@ -59,8 +59,7 @@ impl<S: Alter + Drop> Base<S> {
         ensures { LooksUp S.Store (λ t found. IsFoundAs ShowsHold (is_hold number) t.holds found)
             self.old self.new result }
     {
-        let number = self.column(number)?;
-        self.first_as(HOLD, &[number])
+        self.first_at(HOLD, number)
     }
 
     /// The greatest number of a hold.

@@ -54,7 +54,7 @@ pub(crate) fn put_identity<S: Alter>(
 impl FromRow for IdentityRow {
     ghost use Rattle.std.specs.Prelude.{◌≡◌};
     ghost use Rattle.tables.specs.Queries.{identity_view};
-    ghost use Rattle.tables.specs.Shown.{identity_shown};
+    ghost use Rattle.tables.specs.auxiliary.Shown.{identity_shown};
     ghost use Rattle.tables.specs.Tables.{InstalledRow};
 
     ghost shows = { λ row i. (x : InstalledRow) → row ≡ identity_shown x → identity_view i ≡ x };
@@ -79,7 +79,6 @@ impl<S: Alter + Drop> Base<S> {
         ensures { LooksUp S.Store (λ t found. IsFoundAs ShowsIdentity (is_identity number) t.identities found)
             self.old self.new result }
     {
-        let number = self.column(number)?;
-        self.first_as(IDENTITY, &[number])
+        self.first_at(IDENTITY, number)
     }
 }

@@ -6,7 +6,8 @@ ghost use Rattle.sqlite.specs.State.{HasCleanDisk};
 ghost use Rattle.tables.specs.Layout.{IsDatabaseOf, IsDatabaseIn, IsOnTheWay};
 ghost use Rattle.tables.specs.Migration.{Migrates};
 ghost use Rattle.tables.specs.Tables.{Tables};
-ghost use Rattle.tables.specs.Transaction.{LeadsOn, CommitsFrom};
+ghost use Rattle.tables.specs.Transaction.{CommitsFrom};
+ghost use Rattle.tables.specs.auxiliary.Steps.{LeadsOn};
 ghost use Rattle.tables.specs.Versions.{IsFoundIn, IsUntold, LooksAs, number_of, tells_taken};
 ghost use Rattle.tables.specs.declared.version.Version.{Version as Value};
 
@@ -19,19 +20,16 @@ const MAKE_GROUP_READER: &str =
     (serial, name)) STRICT;";
 
 const MAKE_IDENTITY: &str =
-    "CREATE TABLE identity (n INTEGER PRIMARY KEY, after_serial INTEGER NOT NULL, certificate BLOB NOT NULL, chain BLOB \
-    NOT NULL) STRICT;";
+    "CREATE TABLE identity (n INTEGER PRIMARY KEY, after_serial INTEGER NOT NULL, certificate BLOB NOT NULL, \
+    chain BLOB NOT NULL) STRICT;";
 
 const SET_VERSION: &str = "UPDATE meta SET version = 3";
 
 /// Makes what the second version has.
 fn make_group_readers<S: Alter>(tx: &mut Transaction<'_, S>) -> Result<usize, Error>
     ensures same_reference { tx.new.conn.ghost_name ≡ tx.old.conn.ghost_name }
-    ensures leads { LeadsOn (IsOnTheWay 1) (IsOnTheWay 2) (state S.Store tx.old.conn.now) (state S.Store tx.new.conn.now)
-        result }
-    ensures taken { HasCleanDisk (state S.Store tx.new.conn.now) → IsTrue (state S.Store tx.old.conn.now).in_transaction
-        → IfErr result (λ e. (t : Tables) → IsOnTheWay 1 t (state S.Store tx.old.conn.now).now
-        → tells_taken e ≡ false) }
+    ensures leads { LeadsOn (IsOnTheWay 1) (IsOnTheWay 2) (state S.Store tx.old.conn.now)
+        (state S.Store tx.new.conn.now) result }
 {
     tx.execute(MAKE_GROUP_READER, &[])
 }
@@ -39,11 +37,8 @@ fn make_group_readers<S: Alter>(tx: &mut Transaction<'_, S>) -> Result<usize, Er
 /// Makes what the third version has.
 fn make_identities<S: Alter>(tx: &mut Transaction<'_, S>) -> Result<usize, Error>
     ensures same_reference { tx.new.conn.ghost_name ≡ tx.old.conn.ghost_name }
-    ensures leads { LeadsOn (IsOnTheWay 2) (IsOnTheWay 3) (state S.Store tx.old.conn.now) (state S.Store tx.new.conn.now)
-        result }
-    ensures taken { HasCleanDisk (state S.Store tx.new.conn.now) → IsTrue (state S.Store tx.old.conn.now).in_transaction
-        → IfErr result (λ e. (t : Tables) → IsOnTheWay 2 t (state S.Store tx.old.conn.now).now
-        → tells_taken e ≡ false) }
+    ensures leads { LeadsOn (IsOnTheWay 2) (IsOnTheWay 3) (state S.Store tx.old.conn.now)
+        (state S.Store tx.new.conn.now) result }
 {
     tx.execute(MAKE_IDENTITY, &[])
 }
@@ -51,11 +46,8 @@ fn make_identities<S: Alter>(tx: &mut Transaction<'_, S>) -> Result<usize, Error
 /// Has `meta` say the version of now.
 fn set_version<S: Alter>(tx: &mut Transaction<'_, S>) -> Result<usize, Error>
     ensures same_reference { tx.new.conn.ghost_name ≡ tx.old.conn.ghost_name }
-    ensures leads { LeadsOn (IsOnTheWay 3) IsDatabaseOf (state S.Store tx.old.conn.now) (state S.Store tx.new.conn.now)
-        result }
-    ensures taken { HasCleanDisk (state S.Store tx.new.conn.now) → IsTrue (state S.Store tx.old.conn.now).in_transaction
-        → IfErr result (λ e. (t : Tables) → IsOnTheWay 3 t (state S.Store tx.old.conn.now).now
-        → tells_taken e ≡ false) }
+    ensures leads { LeadsOn (IsOnTheWay 3) IsDatabaseOf (state S.Store tx.old.conn.now)
+        (state S.Store tx.new.conn.now) result }
 {
     tx.execute(SET_VERSION, &[])
 }
@@ -63,11 +55,8 @@ fn set_version<S: Alter>(tx: &mut Transaction<'_, S>) -> Result<usize, Error>
 /// Makes what comes after the second version.
 fn go_on_from_second<S: Alter>(tx: &mut Transaction<'_, S>) -> Result<usize, Error>
     ensures same_reference { tx.new.conn.ghost_name ≡ tx.old.conn.ghost_name }
-    ensures leads { LeadsOn (IsOnTheWay 2) IsDatabaseOf (state S.Store tx.old.conn.now) (state S.Store tx.new.conn.now)
-        result }
-    ensures taken { HasCleanDisk (state S.Store tx.new.conn.now) → IsTrue (state S.Store tx.old.conn.now).in_transaction
-        → IfErr result (λ e. (t : Tables) → IsOnTheWay 2 t (state S.Store tx.old.conn.now).now
-        → tells_taken e ≡ false) }
+    ensures leads { LeadsOn (IsOnTheWay 2) IsDatabaseOf (state S.Store tx.old.conn.now)
+        (state S.Store tx.new.conn.now) result }
 {
     make_identities(tx)?;
     set_version(tx)
@@ -76,11 +65,8 @@ fn go_on_from_second<S: Alter>(tx: &mut Transaction<'_, S>) -> Result<usize, Err
 /// Makes what comes after the first version.
 fn go_on_from_first<S: Alter>(tx: &mut Transaction<'_, S>) -> Result<usize, Error>
     ensures same_reference { tx.new.conn.ghost_name ≡ tx.old.conn.ghost_name }
-    ensures leads { LeadsOn (IsOnTheWay 1) IsDatabaseOf (state S.Store tx.old.conn.now) (state S.Store tx.new.conn.now)
-        result }
-    ensures taken { HasCleanDisk (state S.Store tx.new.conn.now) → IsTrue (state S.Store tx.old.conn.now).in_transaction
-        → IfErr result (λ e. (t : Tables) → IsOnTheWay 1 t (state S.Store tx.old.conn.now).now
-        → tells_taken e ≡ false) }
+    ensures leads { LeadsOn (IsOnTheWay 1) IsDatabaseOf (state S.Store tx.old.conn.now)
+        (state S.Store tx.new.conn.now) result }
 {
     make_group_readers(tx)?;
     go_on_from_second(tx)
@@ -91,9 +77,6 @@ fn go_on<S: Alter>(tx: &mut Transaction<'_, S>, from: Version) -> Result<usize, 
     ensures same_reference { tx.new.conn.ghost_name ≡ tx.old.conn.ghost_name }
     ensures leads { LeadsOn (IsOnTheWay (number_of from)) IsDatabaseOf (state S.Store tx.old.conn.now)
         (state S.Store tx.new.conn.now) result }
-    ensures taken { HasCleanDisk (state S.Store tx.new.conn.now) → IsTrue (state S.Store tx.old.conn.now).in_transaction
-        → IfErr result (λ e. (t : Tables) → IsOnTheWay (number_of from) t (state S.Store tx.old.conn.now).now
-        → tells_taken e ≡ false) }
 {
     match from {
         Version::First => go_on_from_first(tx),

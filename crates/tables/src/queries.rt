@@ -1,6 +1,6 @@
 //! Queries, asked inside a transaction that goes on, or each in one of its own that is undone.
-ghost use Rattle.std.specs.Prelude.{◌≡◌, ◌≢◌, ◌<◌, ◌^◌, ℕ, pos, false, length, IfOk, IfErr, IfSome, OnOk, IsTrue};
-ghost use Rattle.std.specs.Prelude.{string_bytes, option_map, is_some};
+ghost use Rattle.std.specs.Prelude.{◌≡◌, ◌≢◌, ◌<◌, ◌^◌, ◌∷◌, [], ℕ, pos, false, length, IfOk, IfErr, IfSome, OnOk};
+ghost use Rattle.std.specs.Prelude.{IsTrue, string_bytes, option_map, is_some};
 ghost use Rattle.std.specs.List.{slice_get};
 ghost use Rattle.sqlite_value.specs.Value.{owned};
 ghost use Rattle.sqlite_value.specs.Order.{column};
@@ -12,7 +12,7 @@ ghost use Rattle.tables.specs.Layout.{token_cell};
 ghost use Rattle.tables.specs.Versions.{IsUnanswered};
 ghost use Rattle.tables.specs.Schema.{the_schema};
 ghost use Rattle.tables.specs.QueryAnswers.{IsQueryText, IsPlainIn, Answers, TellsRows, TellsNumber, Looks};
-ghost use Rattle.tables.specs.QueryAnswers.{AreReadAs};
+ghost use Rattle.tables.specs.QueryAnswers.{AreReadAs, AsksInside};
 ghost use Rattle.tables.specs.Transaction.{Carries};
 ghost use Rattle.tables.specs.Changes.{IsCounted};
 ghost use Rattle.tables.specs.Queries.{LooksUp, TellsRow, TellsAs, TellsAll, TellsAllAs};
@@ -43,10 +43,11 @@ fn rows_in<S: Alter>(
     sql: &str,
     params: &[ValueRef<'_>],
 ) -> Result<Vec<Row>, Error>
-    requires { IsQueryText sql.now }
     ensures same_reference { tx.new.conn.ghost_name ≡ tx.old.conn.ghost_name }
-    ensures carries { Carries (λ t. t) (state S.Store tx.old.conn.now) (state S.Store tx.new.conn.now) result }
-    ensures told { HasCleanDisk (state S.Store tx.new.conn.now)
+    ensures asks { AsksInside (state S.Store tx.old.conn.now) (state S.Store tx.new.conn.now) result }
+    ensures carries { IsQueryText sql.now
+        → Carries (λ t. t) (state S.Store tx.old.conn.now) (state S.Store tx.new.conn.now) result }
+    ensures told { IsQueryText sql.now → HasCleanDisk (state S.Store tx.new.conn.now)
         → (state S.Store tx.old.conn.now).now.schema ≡ the_schema → IfOk result (λ rows.
         TellsRows sql.now (bound params.now) (state S.Store tx.old.conn.now).now.trees rows.items) }
     ensures answered { HasCleanDisk (state S.Store tx.new.conn.now)
@@ -83,12 +84,12 @@ pub(crate) fn rows_of<S: Alter>(
     sql: &str,
     params: &[ValueRef<'_>],
 ) -> Result<Vec<Row>, Error>
-    requires autocommit { conn.old.in_transaction ≡ false }
-    requires text { IsQueryText sql.now }
+    requires { conn.old.in_transaction ≡ false }
     ensures closed { conn.new.in_transaction ≡ false }
     ensures looks { Looks (state S.Store conn.old) (state S.Store conn.new) }
     ensures opened { HasCleanDisk (state S.Store conn.new) → OnOk result (IsTrue (state S.Store conn.old).is_open) }
-    ensures told { HasCleanDisk (state S.Store conn.new) → (state S.Store conn.old).now.schema ≡ the_schema
+    ensures told { IsQueryText sql.now → HasCleanDisk (state S.Store conn.new)
+        → (state S.Store conn.old).now.schema ≡ the_schema
         → IfOk result (λ rows. TellsRows sql.now (bound params.now) (state S.Store conn.old).now.trees rows.items) }
     ensures answered { HasCleanDisk (state S.Store conn.new) → IsPlainIn (state S.Store conn.old).now.schema sql.now
         → IfOk result (λ rows. Answers sql.now (bound params.now) (state S.Store conn.old).now rows.items) }
@@ -115,7 +116,6 @@ fn first_of(mut rows: Vec<Row>) -> Option<Row>
 impl<S: Alter + Drop> Base<S> {
     /// The first row that a query answers, if any.
     fn first_row(&mut self, sql: &str, params: &[ValueRef<'_>]) -> Result<Option<Row>, TableFault>
-        requires { IsQueryText sql.now }
         ensures { LooksUp S.Store (TellsRow sql.now (bound params.now)) self.old self.new result }
     {
         match rows_of(&mut self.conn, sql, params) {
@@ -126,7 +126,6 @@ impl<S: Alter + Drop> Base<S> {
 
     /// Whether a query answers a row.
     pub(crate) fn any_row(&mut self, sql: &str, params: &[ValueRef<'_>]) -> Result<bool, TableFault>
-        requires { IsQueryText sql.now }
         ensures { LooksUp S.Store (λ t any. (row : _) × TellsRow sql.now (bound params.now) t row × (any ≡ is_some row))
             self.old self.new result }
     {
@@ -136,7 +135,6 @@ impl<S: Alter + Drop> Base<S> {
 
     /// The rows that a query answers.
     fn rows(&mut self, sql: &str, params: &[ValueRef<'_>]) -> Result<Vec<Row>, TableFault>
-        requires { IsQueryText sql.now }
         ensures { LooksUp S.Store (λ t rows. TellsAll sql.now (bound params.now) t rows.items) self.old self.new
             result }
     {
@@ -153,7 +151,6 @@ impl<S: Alter + Drop> Base<S> {
         sql: &str,
         params: &[ValueRef<'_>],
     ) -> Result<Vec<R>, TableFault>
-        requires { IsQueryText sql.now }
         ensures { LooksUp S.Store (λ t found. TellsAllAs R.shows sql.now (bound params.now) t found.items)
             self.old self.new result }
     {
@@ -170,7 +167,6 @@ impl<S: Alter + Drop> Base<S> {
         sql: &str,
         params: &[ValueRef<'_>],
     ) -> Result<Option<R>, TableFault>
-        requires { IsQueryText sql.now }
         ensures { LooksUp S.Store (TellsAs R.shows sql.now (bound params.now)) self.old self.new result }
     {
         let Some(row) = self.first_row(sql, params)? else {
@@ -182,13 +178,24 @@ impl<S: Alter + Drop> Base<S> {
         }
     }
 
+    /// The same of a query about a number.
+    pub(crate) fn first_at<R: FromRow>(
+        &mut self,
+        sql: &str,
+        number: u64,
+    ) -> Result<Option<R>, TableFault>
+        ensures { LooksUp S.Store (TellsAs R.shows sql.now (Int (pos number) ∷ [])) self.old self.new result }
+    {
+        let number = self.column(number)?;
+        self.first_as(sql, &[number])
+    }
+
     /// The number that the first row that a query answers begins with, if there is a row.
     pub(crate) fn first_number(
         &mut self,
         sql: &str,
         params: &[ValueRef<'_>],
     ) -> Result<Option<u64>, TableFault>
-        requires { IsQueryText sql.now }
         ensures looks { LooksUp S.Store (TellsAs (λ row n. column row 0 ≡ Int (pos n)) sql.now (bound params.now))
             self.old self.new result }
         ensures small { IfOk result (λ found. IfSome found (λ n. n < 2 ^ 63)) }

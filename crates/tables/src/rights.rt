@@ -6,7 +6,7 @@ ghost use Rattle.sqlite.specs.Held.{state};
 ghost use Rattle.book.specs.Entries.{reader_view};
 ghost use Rattle.tables.specs.Found.{IsLeastAs};
 ghost use Rattle.tables.specs.Queries.{LooksUp, ShowsReaderSerial, is_readable_after};
-ghost use Rattle.tables.specs.Steps.{with_right_alone};
+ghost use Rattle.tables.specs.auxiliary.Steps.{with_right_alone};
 ghost use Rattle.tables.specs.Tables.{without_right, is_reader_row, by_kind, rights_of, name_of};
 ghost use Rattle.tables.specs.Transaction.{Carries};
 

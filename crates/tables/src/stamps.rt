@@ -6,7 +6,7 @@ ghost use Rattle.book.specs.History.{day_of, stamp_of};
 ghost use Rattle.book.specs.Values.{reservation_view};
 ghost use Rattle.tables.specs.Found.{IsFoundAs, IsLeastAs, IsGreatestAs};
 ghost use Rattle.tables.specs.Queries.{LooksUp, ShowsStamp, ShowsOrigin, ShowsLast, is_within};
-ghost use Rattle.tables.specs.Steps.{with_stamp_alone};
+ghost use Rattle.tables.specs.auxiliary.Steps.{with_stamp_alone};
 ghost use Rattle.tables.specs.Tables.{with_token, is_stamp};
 ghost use Rattle.tables.specs.Transaction.{Carries};
 
@@ -85,7 +85,7 @@ pub(crate) fn set_token<S: Alter>(
 impl FromRow for Stamp {
     ghost use Rattle.std.specs.Prelude.{◌≡◌};
     ghost use Rattle.tables.specs.Queries.{stamp_view};
-    ghost use Rattle.tables.specs.Shown.{stamp_shown};
+    ghost use Rattle.tables.specs.auxiliary.Shown.{stamp_shown};
     ghost use Rattle.tables.specs.Tables.{StampRow};
 
     ghost shows = { λ row s. (x : StampRow) → row ≡ stamp_shown x → stamp_view s ≡ x };
@@ -119,7 +119,7 @@ impl FromRow for Stamp {
 impl FromRow for Origin {
     ghost use Rattle.std.specs.Prelude.{◌≡◌};
     ghost use Rattle.tables.specs.Queries.{ShowsOrigin};
-    ghost use Rattle.tables.specs.Shown.{origin_shown};
+    ghost use Rattle.tables.specs.auxiliary.Shown.{origin_shown};
     ghost use Rattle.tables.specs.Tables.{StampRow};
 
     ghost shows = { λ row origin. (x : StampRow) → row ≡ origin_shown x → ShowsOrigin x origin };
@@ -151,8 +151,7 @@ impl<S: Alter + Drop> Base<S> {
         ensures { LooksUp S.Store (λ t found. IsFoundAs ShowsStamp (is_stamp serial) t.stamps found)
             self.old self.new result }
     {
-        let serial = self.column(serial)?;
-        self.first_as(STAMP, &[serial])
+        self.first_at(STAMP, serial)
     }
 
     /// The account and the genTime of the stamp with the serial number.
@@ -160,8 +159,7 @@ impl<S: Alter + Drop> Base<S> {
         ensures { LooksUp S.Store (λ t found. IsFoundAs ShowsOrigin (is_stamp serial) t.stamps found)
             self.old self.new result }
     {
-        let serial = self.column(serial)?;
-        self.first_as(ORIGIN, &[serial])
+        self.first_at(ORIGIN, serial)
     }
 
     /// The stamp with the least serial number from `from` on and up to `to`.

@@ -6,7 +6,7 @@ ghost use Rattle.sqlite.specs.State.{HasCleanDisk};
 ghost use Rattle.tables.specs.Found.{IsFoundAs};
 ghost use Rattle.tables.specs.Layout.{IsDatabaseOf};
 ghost use Rattle.tables.specs.Queries.{LooksUp, ShowsCount};
-ghost use Rattle.tables.specs.Steps.{with_raised, with_first_tally, with_count};
+ghost use Rattle.tables.specs.auxiliary.Steps.{with_raised, with_first_tally, with_count};
 ghost use Rattle.tables.specs.Tables.{Tables, is_tally_of};
 ghost use Rattle.tables.specs.Transaction.{Carries};
 

@@ -3,39 +3,46 @@
 ghost use Rattle.std.specs.Prelude.{◌≡◌, ◌≢◌, ◌↔◌, [], Some, false, IsTrue, IfOk, IfErr, OnOk};
 ghost use Rattle.sqlite_resolve.specs.declared.error.CompileError.{CompileError};
 ghost use Rattle.sqlite.specs.Held.{state};
-ghost use Rattle.sqlite.specs.Listing.{understood};
 ghost use Rattle.sqlite.specs.State.{HasCleanDisk};
 ghost use Rattle.tables.specs.QueryAnswers.{Answers, Looks};
 ghost use Rattle.tables.specs.Layout.{IsDatabaseIn};
-ghost use Rattle.tables.specs.Versions.{version_query, columns_of, number_of, IsUnderstood, IsKnownAs, IsVersion};
+ghost use Rattle.tables.specs.Versions.{version_query, columns_of, number_of, IsKnownAs, IsVersion};
 ghost use Rattle.tables.specs.Versions.{IsUnprepared, IsUnanswered, IsUntold, TellsVersion};
+ghost use Rattle.tables.specs.auxiliary.Told.{TellsColumns};
 ghost use Rattle.tables.specs.Tables.{Tables};
 
 use crate::queries::rows_of;
 use sqlite::types::ValueRef;
 use sqlite::{Alter, Connection, Error, ErrorCode, Row};
 
-const ALL_COLUMNS: &str =
-    "SELECT meta.version, stamp.serial, stamp.account, stamp.day, stamp.gen, stamp.policy, stamp.algorithm, \
-    stamp.digest, stamp.request, stamp.tst, stamp.token, calibration.n, calibration.reading, calibration.offset_us, \
-    calibration.uncertainty, hold.n, hold.from_us, hold.to_us, deposit.serial, deposit.owner, deposit.reference, \
-    deposit.bytes, reader.serial, reader.account, tally.account, tally.day, tally.count, group_reader.serial, \
-    group_reader.name, identity.n, identity.after_serial, identity.certificate, identity.chain FROM meta, stamp, \
-    calibration, hold, deposit, reader, tally, group_reader, identity";
+// A query over each table and each column of the first version, and of what later ones add.
+macro_rules! select_all {
+    ($($column:literal)*, $($table:literal)*) => {
+        concat!(
+            "SELECT meta.version, stamp.serial, stamp.account, stamp.day, stamp.gen, stamp.policy, stamp.algorithm, \
+            stamp.digest, stamp.request, stamp.tst, stamp.token, calibration.n, calibration.reading, \
+            calibration.offset_us, calibration.uncertainty, hold.n, hold.from_us, hold.to_us, deposit.serial, \
+            deposit.owner, deposit.reference, deposit.bytes, reader.serial, reader.account, tally.account, tally.day, \
+            tally.count",
+            $($column,)*
+            " FROM meta, stamp, calibration, hold, deposit, reader, tally"
+            $(, $table)*
+        )
+    };
+}
 
-const SECOND_COLUMNS: &str =
-    "SELECT meta.version, stamp.serial, stamp.account, stamp.day, stamp.gen, stamp.policy, stamp.algorithm, \
-    stamp.digest, stamp.request, stamp.tst, stamp.token, calibration.n, calibration.reading, calibration.offset_us, \
-    calibration.uncertainty, hold.n, hold.from_us, hold.to_us, deposit.serial, deposit.owner, deposit.reference, \
-    deposit.bytes, reader.serial, reader.account, tally.account, tally.day, tally.count, group_reader.serial, \
-    group_reader.name FROM meta, stamp, calibration, hold, deposit, reader, tally, group_reader";
+const FIRST_COLUMNS: &str = select_all!(,);
 
-const FIRST_COLUMNS: &str =
-    "SELECT meta.version, stamp.serial, stamp.account, stamp.day, stamp.gen, stamp.policy, stamp.algorithm, \
-    stamp.digest, stamp.request, stamp.tst, stamp.token, calibration.n, calibration.reading, calibration.offset_us, \
-    calibration.uncertainty, hold.n, hold.from_us, hold.to_us, deposit.serial, deposit.owner, deposit.reference, \
-    deposit.bytes, reader.serial, reader.account, tally.account, tally.day, tally.count FROM meta, stamp, calibration, \
-    hold, deposit, reader, tally";
+const SECOND_COLUMNS: &str = select_all!(
+    ", group_reader.serial, group_reader.name",
+    ", group_reader"
+);
+
+const ALL_COLUMNS: &str = select_all!(
+    ", group_reader.serial, group_reader.name"
+    ", identity.n, identity.after_serial, identity.certificate, identity.chain",
+    ", group_reader" ", identity"
+);
 
 const VERSION: &str = "SELECT version FROM meta";
 
@@ -90,14 +97,11 @@ fn understands<S: Alter>(conn: &mut Connection<S>, sql: &str) -> Result<bool, Er
     requires { conn.old.in_transaction ≡ false }
     ensures closed { conn.new.in_transaction ≡ false }
     ensures looks { Looks (state S.Store conn.old) (state S.Store conn.new) }
-    ensures opened { HasCleanDisk (state S.Store conn.new) → OnOk result (IsTrue (state S.Store conn.old).is_open) }
-    ensures same { HasCleanDisk (state S.Store conn.new)
-        → OnOk result ((state S.Store conn.new).now ≡ (state S.Store conn.old).now) }
     ensures unprepared { HasCleanDisk (state S.Store conn.new)
         → IfErr result (λ e. e ≢ Error.SqliteFailure ErrorCode.OutOfMemory
         → IsUnprepared sql.now (state S.Store conn.old) (state S.Store conn.new)) }
     ensures told { HasCleanDisk (state S.Store conn.new)
-        → IfOk result (λ yes. IsTrue yes ↔ IsUnderstood (understood (state S.Store conn.old).now.schema sql.now)) }
+        → IfOk result (TellsColumns sql.now (state S.Store conn.old) (state S.Store conn.new)) }
 {
     match conn.prepare(sql) {
         Ok(_) => Ok(true),
@@ -138,14 +142,13 @@ fn known_version<S: Alter>(conn: &mut Connection<S>) -> Result<Option<Version>, 
     requires { conn.old.in_transaction ≡ false }
     ensures closed { conn.new.in_transaction ≡ false }
     ensures looks { Looks (state S.Store conn.old) (state S.Store conn.new) }
-    ensures opened { HasCleanDisk (state S.Store conn.new) → OnOk result (IsTrue (state S.Store conn.old).is_open) }
-    ensures same { HasCleanDisk (state S.Store conn.new)
-        → OnOk result ((state S.Store conn.new).now ≡ (state S.Store conn.old).now) }
     ensures unprepared { HasCleanDisk (state S.Store conn.new)
         → IfErr result (λ e. e ≢ Error.SqliteFailure ErrorCode.OutOfMemory
         → (v : Version) × IsUnprepared (columns_of v) (state S.Store conn.old) (state S.Store conn.new)) }
     ensures known { HasCleanDisk (state S.Store conn.new)
-        → IfOk result (λ found. IsKnownAs found (state S.Store conn.old).now.schema) }
+        → IfOk result (λ found. IsTrue (state S.Store conn.old).is_open
+        × ((state S.Store conn.new).now ≡ (state S.Store conn.old).now)
+        × IsKnownAs found (state S.Store conn.old).now.schema) }
 {
     if understands(conn, ALL_COLUMNS)? {
         return Ok(Some(Version::Current));

@@ -1,4 +1,4 @@
-use Rattle.store.proofs.Tables.{stands_tables, looks_tables}
+use Rattle.store.proofs.Tables.{looks_tables, stands_tables}
 use Rattle.store.proofs.laws.book_stands_in_tables.Goals as goal
 
 pub returns-clause-stands : goal.returns-clause-stands

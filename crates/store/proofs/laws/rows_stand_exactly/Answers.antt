@@ -1,4 +1,4 @@
-use Rattle.store.proofs.Exactly.{reader_rows, group_reader_rows, tally_rows}
+use Rattle.store.proofs.Exactly.{group_reader_rows, reader_rows, tally_rows}
 use Rattle.store.proofs.laws.rows_stand_exactly.Goals as goal
 
 pub returns-clause-readers : goal.returns-clause-readers

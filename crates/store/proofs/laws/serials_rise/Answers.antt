@@ -1,5 +1,4 @@
-use Rattle.std.proofs.Common.{arith}
-use Rattle.book.specs.History.{reservations}
+use Rattle.store.proofs.Words.{arith, reservations}
 use Rattle.store.proofs.Alike.{not_above}
 use Rattle.store.proofs.laws.serials_rise.Goals as goal
 

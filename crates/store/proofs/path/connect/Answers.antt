@@ -1,6 +1,5 @@
-use Rattle.std.proofs.Common.{ℕ, Bool, cond, List, ap₂}
 use Rattle.sqlite_disk.specs.Events.{Event, replay}
-use Rattle.sqlite_wal.specs.Recovery.{Image}
+use Rattle.store.proofs.Words.{Bool, Image, List, ap₂, cond, ℕ}
 use Rattle.store.proofs.Unopened.{fails_to_open, opens_nothing}
 use Rattle.store.proofs.path.connect.Goals as goal
 

@@ -1,4 +1,4 @@
-use Rattle.std.proofs.Common.{◌∙◌, sym, refl}
+use Rattle.store.proofs.Words.{refl, sym, ◌∙◌}
 use Rattle.store.proofs.Migration.{told_not_ours}
 use Rattle.store.proofs.path.opening_fault.Goals as goal
 

@@ -1,15 +1,14 @@
-use Rattle.std.proofs.Common.{◌+◌, refl}
-use Rattle.book.specs.Values.{calibration_view}
+use Rattle.tables.proofs.Words.{calibration_view, refl, ◌+◌}
 use Rattle.tables.specs.Changes.{calibration_row, greatest_by}
 use Rattle.tables.specs.Tables.{with_calibration}
-use Rattle.tables.proofs.InsertLemmas.{calibration_carried}
 use Rattle.tables.proofs.CellLemmas.{value_more}
+use Rattle.tables.proofs.InsertLemmas.{adds_calibration}
+use Rattle.tables.proofs.Lookups.{finds_latest_calibration}
 use Rattle.tables.proofs.NumberLemmas.{number_is, numbered}
-use Rattle.tables.proofs.OtherLookups.{asks_latest_calibration, finds_latest_calibration}
 use Rattle.tables.proofs.calibrations.put_calibration.Goals as goal
 
 pub number_in-requires : goal.number_in-requires
-number_in-requires g c = asks_latest_calibration.text
+number_in-requires g c = finds_latest_calibration.text
 
 pub returns-clause-carries : goal.returns-clause-carries
 returns-clause-carries g c =
@@ -18,7 +17,7 @@ returns-clause-carries g c =
     _ _ _ _ _ c.in_ok-greatest.ensures.carries
     (λ clean t d. number_is _ _ (λ x. refl) _ _ finds_latest_calibration t _ _ d.holds
     (c.in_ok-greatest.ensures.told clean d.schema))
-    (calibration_carried (calibration_row value (c.in_ok-greatest.greatest + 1)) _ _ _ c.execute.ensures.survives _
+    (adds_calibration (calibration_row value (c.in_ok-greatest.greatest + 1)) _ _ _ c.execute.ensures.survives _
     (value_more _ _ c.in_ok-n.ensures.value (value_more _ _ c.to_sql.ensures (value_more _ _ c.to_sql-2.ensures
     (value_more _ _ c.in_ok-uncertainty.ensures.value refl))))
     c.execute.ensures.runs)

@@ -1,8 +1,6 @@
-use Rattle.std.proofs.Common.{◌≡◌, subst, rules}
-use Rattle.sqlite.specs.Held.{state}
-use Rattle.book.specs.Entries.{entries_view}
-use Rattle.tables.specs.Transaction.{Commits, IsSoundOf}
+use Rattle.tables.proofs.Words.{entries_view, rules, state, subst, ◌≡◌}
 use Rattle.tables.specs.Changes.{applied_all}
+use Rattle.tables.specs.Transaction.{Commits, IsSoundOf}
 use Rattle.tables.proofs.CommitLemmas.{committed}
 use Rattle.tables.proofs.changes.commit_entries.Goals as goal
 

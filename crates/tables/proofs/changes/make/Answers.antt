@@ -1,9 +1,7 @@
-use Rattle.std.proofs.Common.{ap}
-use Rattle.book.specs.Entries.{reader_view}
-use Rattle.book.specs.History.{day_of}
-use Rattle.tables.specs.Steps.{with_count}
-use Rattle.tables.proofs.CountLemmas.{chained, reworded}
+use Rattle.tables.proofs.Words.{ap, day_of, reader_view}
+use Rattle.tables.specs.auxiliary.Steps.{with_count}
 use Rattle.tables.proofs.AnswerLemmas.{refused_carries}
+use Rattle.tables.proofs.CountLemmas.{chained, reworded}
 use Rattle.tables.proofs.RightLemmas.{right_given}
 use Rattle.tables.proofs.changes.make.Goals as goal
 

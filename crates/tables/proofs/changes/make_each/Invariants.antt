@@ -1,5 +1,4 @@
-use Rattle.std.proofs.Common.{◌≡◌}
-use Rattle.sqlite.specs.Held.{state}
+use Rattle.tables.proofs.Words.{state, ◌≡◌}
 use Rattle.tables.proofs.EachLemmas.{MadeSome}
 use Rattle.tables.proofs.changes.make_each.Given as goal
 

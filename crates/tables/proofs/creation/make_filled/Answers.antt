@@ -1,5 +1,5 @@
-use Rattle.std.proofs.Common.{◌∙◌, sym}
-use Rattle.tables.proofs.EachLemmas.{filled_none, filled_each}
+use Rattle.tables.proofs.Words.{sym, ◌∙◌}
+use Rattle.tables.proofs.EachLemmas.{filled_each, filled_none}
 use Rattle.tables.proofs.creation.make_filled.Goals as goal
 
 pub returns-then-is_empty-clause-filled : goal.returns-then-is_empty-clause-filled

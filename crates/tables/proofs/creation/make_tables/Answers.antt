@@ -1,11 +1,8 @@
-use Rattle.std.proofs.Common.{◌≡◌, subst, rules, IsTrue, Ok, Err}
-use Rattle.sqlite.specs.Effect.{Database}
-use Rattle.sqlite.specs.Held.{state}
-use Rattle.book.specs.Entries.{entries_view}
+use Rattle.tables.proofs.Words.{Database, Err, IsTrue, Ok, entries_view, rules, state, subst, ◌≡◌}
 use Rattle.tables.specs.Changes.{applied_all}
-use Rattle.tables.specs.Versions.{Creates}
 use Rattle.tables.specs.Schema.{no_schema}
 use Rattle.tables.specs.Tables.{no_rows}
+use Rattle.tables.specs.Versions.{Creates}
 use Rattle.tables.proofs.CommitLemmas.{committed}
 use Rattle.tables.proofs.creation.make_tables.Goals as goal
 

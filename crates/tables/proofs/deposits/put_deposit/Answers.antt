@@ -1,10 +1,10 @@
-use Rattle.std.proofs.Common.{refl}
-use Rattle.tables.proofs.InsertLemmas.{deposit_carried}
+use Rattle.tables.proofs.Words.{refl}
 use Rattle.tables.proofs.CellLemmas.{text_more, value_more}
+use Rattle.tables.proofs.InsertLemmas.{adds_deposit}
 use Rattle.tables.proofs.deposits.put_deposit.Goals as goal
 
 pub returns-clause-carries : goal.returns-clause-carries
 returns-clause-carries g c =
-    deposit_carried _ _ _ _ c.execute.ensures.survives _
+    adds_deposit _ _ _ _ c.execute.ensures.survives _
     (value_more _ _ c.in_ok-serial.ensures.value
     (text_more c.as_bytes.ensures.value (text_more c.as_bytes-2.ensures.value refl))) c.execute.ensures.runs

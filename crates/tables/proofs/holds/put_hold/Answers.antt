@@ -1,15 +1,14 @@
-use Rattle.std.proofs.Common.{◌+◌, refl}
-use Rattle.book.specs.Values.{hold_view}
-use Rattle.tables.specs.Changes.{hold_row, greatest_by}
+use Rattle.tables.proofs.Words.{hold_view, refl, ◌+◌}
+use Rattle.tables.specs.Changes.{greatest_by, hold_row}
 use Rattle.tables.specs.Tables.{with_hold}
-use Rattle.tables.proofs.InsertLemmas.{hold_carried}
 use Rattle.tables.proofs.CellLemmas.{value_more}
+use Rattle.tables.proofs.InsertLemmas.{adds_hold}
+use Rattle.tables.proofs.Lookups.{finds_greatest_hold}
 use Rattle.tables.proofs.NumberLemmas.{number_is, numbered}
-use Rattle.tables.proofs.OtherLookups.{asks_greatest_hold, finds_greatest_hold}
 use Rattle.tables.proofs.holds.put_hold.Goals as goal
 
 pub number_in-requires : goal.number_in-requires
-number_in-requires g c = asks_greatest_hold.text
+number_in-requires g c = finds_greatest_hold.text
 
 pub returns-clause-carries : goal.returns-clause-carries
 returns-clause-carries g c =
@@ -18,6 +17,6 @@ returns-clause-carries g c =
     _ _ _ _ _ c.in_ok-greatest.ensures.carries
     (λ clean t d. number_is _ _ (λ x. refl) _ _ finds_greatest_hold t _ _ d.holds
     (c.in_ok-greatest.ensures.told clean d.schema))
-    (hold_carried (hold_row value (c.in_ok-greatest.greatest + 1)) _ _ _ c.execute.ensures.survives _
+    (adds_hold (hold_row value (c.in_ok-greatest.greatest + 1)) _ _ _ c.execute.ensures.survives _
     (value_more _ _ c.in_ok-n.ensures.value (value_more _ _ c.to_sql.ensures (value_more _ _ c.to_sql-2.ensures refl)))
     c.execute.ensures.runs)

@@ -1,18 +1,17 @@
-use Rattle.std.proofs.Common.{◌+◌, ℕ, refl}
+use Rattle.tables.proofs.Words.{refl, ℕ, ◌+◌}
 use Rattle.tables.specs.Changes.{greatest_by}
 use Rattle.tables.specs.Tables.{InstalledRow, with_identity}
 use Rattle.tables.proofs.CellLemmas.{value_more}
-use Rattle.tables.proofs.IdentityLemmas.{identity_carried}
+use Rattle.tables.proofs.InsertLemmas.{adds_identity}
+use Rattle.tables.proofs.Lookups.{finds_greatest_identity, finds_last_stamp}
 use Rattle.tables.proofs.NumberLemmas.{number_is, numbered}
-use Rattle.tables.proofs.OtherLookups.{asks_greatest_identity, finds_greatest_identity}
-use Rattle.tables.proofs.StampLookups.{asks_last_stamp, finds_last_stamp}
 use Rattle.tables.proofs.identities.put_identity.Goals as goal
 
 pub number_in-requires : goal.number_in-requires
-number_in-requires g c = asks_greatest_identity.text
+number_in-requires g c = finds_greatest_identity.text
 
 pub number_in-requires-2 : goal.number_in-requires-2
-number_in-requires-2 g c = asks_last_stamp.text
+number_in-requires-2 g c = finds_last_stamp.text
 
 pub returns-clause-carries : goal.returns-clause-carries
 returns-clause-carries g c =
@@ -22,16 +21,16 @@ returns-clause-carries g c =
       certificate = c.args.certificate.now;
       chain = c.args.chain.now;
     } in r in
-    let greatest = c.in_ok-greatest.greatest in
-    let serial = c.in_ok-serial.serial in
+    let greatest = c.in_ok-greatest in
+    let serial = c.in_ok-serial in
     numbered (λ n t. with_identity (row (n + 1) (greatest_by (λ s. s.serial) t.stamps)) t)
-    (λ t. greatest_by (λ i. i.number) t.identities) _ _ _ _ _ c.in_ok-greatest.ensures.carries
+    (λ t. greatest_by (λ i. i.number) t.identities) _ _ _ _ _ greatest.ensures.carries
     (λ clean t d. number_is _ _ (λ x. refl) _ _ finds_greatest_identity t _ _ d.holds
-    (c.in_ok-greatest.ensures.told clean d.schema))
-    (numbered (λ n. with_identity (row (greatest + 1) n)) (λ t. greatest_by (λ s. s.serial) t.stamps)
-    _ _ _ _ _ c.in_ok-serial.ensures.carries
+    (greatest.ensures.told clean d.schema))
+    (numbered (λ n. with_identity (row (greatest.greatest + 1) n)) (λ t. greatest_by (λ s. s.serial) t.stamps)
+    _ _ _ _ _ serial.ensures.carries
     (λ clean t d. number_is _ _ (λ x. refl) _ _ finds_last_stamp t _ _ d.holds
-    (c.in_ok-serial.ensures.told clean d.schema))
-    (identity_carried (row (greatest + 1) serial) _ _ _ c.execute.ensures.survives _
+    (serial.ensures.told clean d.schema))
+    (adds_identity (row (greatest.greatest + 1) serial.serial) _ _ _ c.execute.ensures.survives _
     (value_more _ _ c.in_ok-number.ensures.value (value_more _ _ c.in_ok-after_serial.ensures.value refl))
     c.execute.ensures.runs))

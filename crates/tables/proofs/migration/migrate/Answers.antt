@@ -1,8 +1,7 @@
-use Rattle.std.proofs.Common.{◌≡◌, ◌≢◌, inl, refl}
-use Rattle.sqlite.specs.Held.{state}
-use Rattle.tables.specs.declared.version.Version.TheVariants as version
-use Rattle.tables.proofs.MigrateLemmas.{current_migrates, earlier_migrates, earlier_refused, earlier_ours}
+use Rattle.tables.proofs.Words.{inl, refl, state, ◌≡◌, ◌≢◌}
+use Rattle.tables.proofs.MigrateLemmas.{current_migrates, earlier_migrates, earlier_ours, earlier_refused}
 use Rattle.tables.proofs.MigrateLemmas.{refused_migrates}
+use Rattle.tables.specs.declared.version.Version.TheVariants as version
 use Rattle.tables.proofs.migration.migrate.Goals as goal
 
 pub returns-in-Ok-None-clause-not_ours : goal.returns-in-Ok-None-clause-not_ours

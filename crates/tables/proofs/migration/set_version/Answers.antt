@@ -1,8 +1,5 @@
-use Rattle.tables.proofs.MigrateLemmas.{set_leads, set_untaken}
+use Rattle.tables.proofs.MigrateLemmas.{set_leads}
 use Rattle.tables.proofs.migration.set_version.Goals as goal
 
 pub returns-clause-leads : goal.returns-clause-leads
 returns-clause-leads g c = set_leads _ _ c.execute.result c.execute.ensures.survives c.execute.ensures.runs
-
-pub returns-clause-taken : goal.returns-clause-taken
-returns-clause-taken g c = set_untaken _ _ c.execute.result c.execute.ensures.survives c.execute.ensures.runs

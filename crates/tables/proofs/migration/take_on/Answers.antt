@@ -1,9 +1,6 @@
-use Rattle.std.proofs.Common.{◌≡◌, refl, sym, subst, rules, arith}
-use Rattle.std.proofs.lemmas.Result.{err_from_is_err_and}
-use Rattle.sqlite.specs.Held.{state}
-use Rattle.sqlite.specs.State.{HasCleanDisk}
-use Rattle.tables.specs.Transaction.{CommitsFrom}
+use Rattle.tables.proofs.Words.{HasCleanDisk, arith, err_from_is_err_and, refl, rules, state, subst, sym, ◌≡◌}
 use Rattle.tables.specs.Layout.{IsDatabaseIn}
+use Rattle.tables.specs.Transaction.{CommitsFrom}
 use Rattle.tables.specs.Versions.{number_of}
 use Rattle.tables.proofs.CommitLemmas.{committed}
 use Rattle.tables.proofs.MigrateLemmas.{begins, carried_on}
@@ -24,10 +21,10 @@ returns-clause-commits g c =
 pub returns-in_err-go_on-clause-taken : goal.returns-in_err-go_on-clause-taken
 returns-in_err-go_on-clause-taken g c clean =
     let failing = err_from_is_err_and c.from_residual.result c.from_residual.ensures.1 in
-    let never = rw c.transaction-tx.ensures.begun at c.in_err-go_on.ensures.taken in
+    let leads = rw c.transaction-tx.ensures.begun at c.in_err-go_on.ensures.leads in
     let same : c.drop-tx.new.self.0 ≡ c.conn-1.given.0 = search rules in
     let last : HasCleanDisk (state g.S.Store c.drop-tx.new.self.0) =
     subst (λ h. HasCleanDisk (state g.S.Store h)) (sym same) clean in
     let before : HasCleanDisk (state g.S.Store c.go_on.new.tx.conn.now) =
     omega (arith, c.drop-tx.ensures.survives.clean) in
-    rw (failing.1, failing.2) (λ t is. never before refl t (begins (number_of c.args.from) t _ is))
+    rw (failing.1, failing.2) (λ t is. leads.untaken before refl t (begins (number_of c.args.from) t _ is))

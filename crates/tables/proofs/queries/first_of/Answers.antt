@@ -1,5 +1,4 @@
-use Rattle.std.proofs.Common.{◌≡◌, ◌<◌, length, arith}
-use Rattle.std.proofs.lemmas.Bool.Decides.{nat_tests}
+use Rattle.tables.proofs.Words.{arith, length, nat_tests, ◌<◌, ◌≡◌}
 use Rattle.tables.proofs.NumberLemmas.{first_is, none_is}
 use Rattle.tables.proofs.queries.first_of.Goals as goal
 

@@ -1,5 +1,4 @@
-use Rattle.std.proofs.Common.{[], ◌∷◌, ◌++◌, take, sym, ap, ◌∙◌, subst₂}
-use Rattle.std.proofs.lemmas.List.{take_more}
+use Rattle.tables.proofs.Words.{[], ap, subst₂, sym, take, take_more, ◌++◌, ◌∙◌, ◌∷◌}
 use Rattle.tables.specs.QueryAnswers.{AreReadAs}
 use Rattle.tables.proofs.FoundLemmas.{read_more}
 use Rattle.tables.proofs.queries.read_all.Goals as goal

@@ -1,5 +1,5 @@
 -- The values are what the rows before are read as.
-use Rattle.std.proofs.Common.{take}
+use Rattle.tables.proofs.Words.{take}
 use Rattle.tables.specs.QueryAnswers.{AreReadAs}
 use Rattle.tables.proofs.queries.read_all.Given as goal
 

@@ -1,11 +1,7 @@
-use Rattle.std.proofs.Common.{◌≡◌, ◌≢◌, subst, rules, OnOk, IfErr, IsTrue}
-use Rattle.sqlite.specs.Held.{state}
-use Rattle.sqlite.specs.State.{HasCleanDisk}
-use Rattle.sqlite.specs.Values.{bound}
-use Rattle.sqlite.specs.declared.error.Error.TheVariants.{SqliteFailure}
 use Rattle.sqlite.specs.declared.error.ErrorCode.TheVariants.{OutOfMemory}
+use Rattle.tables.proofs.Words.{HasCleanDisk, IfErr, IsTrue, OnOk, SqliteFailure, bound, rules, state, subst, ◌≡◌, ◌≢◌}
+use Rattle.tables.specs.QueryAnswers.{IsPlainIn, Looks}
 use Rattle.tables.specs.Versions.{IsUnanswered}
-use Rattle.tables.specs.QueryAnswers.{Looks, IsPlainIn}
 use Rattle.tables.proofs.AskLemmas.{looked, still_unanswered, was_opened}
 use Rattle.tables.proofs.queries.rows_of.Goals as goal
 
@@ -15,7 +11,7 @@ returns-clause-looks g c =
     let same : c.rollback.new.self.0 ≡ c.conn-1.given.0 = search rules in
     subst (λ h. Looks (state g.S.Store c.args.conn.now) (state g.S.Store h)) same
     (looked g.S.Store c.args.conn.now c.rows_in-rows.new.tx.conn.now c.rollback.new.self.0
-    c.args.sql.now (bound c.args.params.now) c.rows_in-rows.result (rw begun at (c.rows_in-rows.ensures.carries))
+    c.args.sql.now (bound c.args.params.now) c.rows_in-rows.result (rw begun at (c.rows_in-rows.ensures.asks))
     c.rollback.ensures.survives c.rollback.ensures.undone)
 
 pub returns-clause-opened : goal.returns-clause-opened
@@ -25,7 +21,7 @@ returns-clause-opened g c =
     subst (λ h. HasCleanDisk (state g.S.Store h)
     → OnOk c.rows_in-rows.result (IsTrue (state g.S.Store c.args.conn.now).is_open)) same
     (was_opened g.S.Store c.args.conn.now c.rows_in-rows.new.tx.conn.now c.rollback.new.self.0
-    c.args.sql.now (bound c.args.params.now) c.rows_in-rows.result (rw begun at (c.rows_in-rows.ensures.carries))
+    c.args.sql.now (bound c.args.params.now) c.rows_in-rows.result (rw begun at (c.rows_in-rows.ensures.asks))
     c.rollback.ensures.survives c.rollback.ensures.undone)
 
 pub returns-clause-unanswered : goal.returns-clause-unanswered
@@ -36,5 +32,5 @@ returns-clause-unanswered g c =
     → IfErr c.rows_in-rows.result (λ e. e ≢ SqliteFailure OutOfMemory
     → IsUnanswered c.args.sql.now (bound c.args.params.now) (state g.S.Store c.args.conn.now) (state g.S.Store h))) same
     (still_unanswered g.S.Store c.args.conn.now c.rows_in-rows.new.tx.conn.now c.rollback.new.self.0
-    c.args.sql.now (bound c.args.params.now) c.rows_in-rows.result (rw begun at (c.rows_in-rows.ensures.carries))
+    c.args.sql.now (bound c.args.params.now) c.rows_in-rows.result (rw begun at (c.rows_in-rows.ensures.asks))
     c.rollback.ensures.survives c.rollback.ensures.undone (rw begun at (c.rows_in-rows.ensures.unanswered)))

@@ -1,15 +1,12 @@
-use Rattle.std.proofs.Common.{refl, None, ap, ◌∙◌}
 use Rattle.std.specs.Prelude.{pos}
-use Rattle.sqlite_value.specs.declared.value.Value.TheVariants.{Int}
-use Rattle.book.specs.History.{stamp_of}
-use Rattle.book.specs.Values.{reservation_view}
-use Rattle.tables.proofs.InsertLemmas.{stamp_carried}
+use Rattle.tables.proofs.Words.{Int, ap, refl, reservation_view, ◌∙◌}
 use Rattle.tables.proofs.CellLemmas.{text_more, value_more}
+use Rattle.tables.proofs.InsertLemmas.{adds_stamp}
 use Rattle.tables.proofs.stamps.put_stamp.Goals as goal
 
 pub returns-clause-carries : goal.returns-clause-carries
 returns-clause-carries g c =
-    stamp_carried (stamp_of None (reservation_view c.args.reservation.now)) _ _ _ c.execute.ensures.survives _
+    adds_stamp (reservation_view c.args.reservation.now) _ _ _ c.execute.ensures.survives _
     (value_more _ _ c.in_ok-serial.ensures.value
     (text_more c.as_bytes.ensures.value
     (value_more _ _ (c.in_ok-day.ensures.value ∙ ap (λ day. Int (pos day)) c.day_of.ensures)

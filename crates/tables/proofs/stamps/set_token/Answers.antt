@@ -1,9 +1,9 @@
-use Rattle.std.proofs.Common.{refl}
-use Rattle.tables.proofs.SealLemmas.{seal_carried}
+use Rattle.tables.proofs.Words.{refl}
 use Rattle.tables.proofs.CellLemmas.{value_more}
+use Rattle.tables.proofs.SealLemmas.{seals}
 use Rattle.tables.proofs.stamps.set_token.Goals as goal
 
 pub returns-clause-carries : goal.returns-clause-carries
 returns-clause-carries g c =
-    seal_carried _ _ _ _ _ c.execute.ensures.survives _ (value_more _ _ c.in_ok-serial.ensures.value refl)
+    seals _ _ _ _ _ c.execute.ensures.survives _ (value_more _ _ c.in_ok-serial.ensures.value refl)
     c.execute.ensures.runs

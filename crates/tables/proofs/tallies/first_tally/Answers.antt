@@ -1,10 +1,9 @@
-use Rattle.std.proofs.Common.{refl}
-use Rattle.tables.proofs.InsertLemmas.{tally_carried}
+use Rattle.tables.proofs.Words.{refl}
 use Rattle.tables.proofs.CellLemmas.{text_more, value_more}
+use Rattle.tables.proofs.InsertLemmas.{adds_tally}
 use Rattle.tables.proofs.tallies.first_tally.Goals as goal
 
 pub returns-clause-carries : goal.returns-clause-carries
 returns-clause-carries g c =
-    tally_carried (record { account = c.args.account.now; day = c.args.day; count = 0 }) _ _ _
-    c.execute.ensures.survives _ (text_more c.as_bytes.ensures.value (value_more _ _ c.in_ok-day.ensures.value refl))
-    c.execute.ensures.runs
+    adds_tally c.args.account.now c.args.day _ _ _ c.execute.ensures.survives _
+    (text_more c.as_bytes.ensures.value (value_more _ _ c.in_ok-day.ensures.value refl)) c.execute.ensures.runs

@@ -1,11 +1,11 @@
-use Rattle.std.proofs.Common.{refl}
-use Rattle.tables.proofs.SealLemmas.{raise_carried, raise_counts}
+use Rattle.tables.proofs.Words.{refl}
 use Rattle.tables.proofs.CellLemmas.{text_more, value_more}
+use Rattle.tables.proofs.SealLemmas.{raise_counts, raises}
 use Rattle.tables.proofs.tallies.raise_tally.Goals as goal
 
 pub returns-clause-carries : goal.returns-clause-carries
 returns-clause-carries g c =
-    raise_carried _ _ _ _ _ c.execute.ensures.survives _
+    raises _ _ _ _ _ c.execute.ensures.survives _
     (text_more c.as_bytes.ensures.value (value_more _ _ c.in_ok-day.ensures.value refl)) c.execute.ensures.runs
 
 pub returns-clause-counts : goal.returns-clause-counts

@@ -1,12 +1,7 @@
-use Rattle.std.proofs.Common.{◌↔◌, subst, IsTrue}
-use Rattle.std.proofs.lemmas.Result.{err_from_is_err_and}
-use Rattle.sqlite.specs.Held.{state}
+use Rattle.tables.proofs.Words.{IsTrue, err_from_is_err_and, state, subst, ◌↔◌}
 use Rattle.tables.specs.Versions.{IsVersion}
-use Rattle.tables.proofs.OpenLemmas.{version_text, version_plain}
+use Rattle.tables.proofs.OpenLemmas.{version_plain}
 use Rattle.tables.proofs.version.has_version.Goals as goal
-
-pub rows_of-requires-clause-text : goal.rows_of-requires-clause-text
-rows_of-requires-clause-text g c = version_text
 
 pub returns-clause-told : goal.returns-clause-told
 returns-clause-told g c clean = (

@@ -1,6 +1,6 @@
-use Rattle.std.proofs.Common.{subst}
-use Rattle.store.specs.Files.{HasClosed}
+use Rattle.store.proofs.Words.{subst}
 use Rattle.store.proofs.ClosedStores.{copied_of}
+use Rattle.store.specs.Files.{HasClosed}
 use Rattle.store.proofs.connection.Store+FileStore+D.close.Goals as goal
 
 pub returns-clause-copied : goal.returns-clause-copied

@@ -1,5 +1,5 @@
-use Rattle.std.proofs.Common.{◌≡◌, drop}
-use Rattle.store.specs.Steps.{least_in}
+use Rattle.store.proofs.Words.{drop, ◌≡◌}
+use Rattle.store.specs.auxiliary.Steps.{least_in}
 use Rattle.store.proofs.cursors.Cursors.least.Given as goal
 
 abbrev pub invariant-loop-number : goal.invariant-loop-number

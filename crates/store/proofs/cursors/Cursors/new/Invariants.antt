@@ -1,4 +1,4 @@
-use Rattle.std.proofs.Common.{◌≡◌, Some, replicate}
+use Rattle.store.proofs.Words.{Some, replicate, ◌≡◌}
 use Rattle.store.proofs.cursors.Cursors.new.Given as goal
 
 abbrev pub invariant-loop : goal.invariant-loop

@@ -1,11 +1,7 @@
-use Rattle.std.proofs.Common.{◌≡◌, ◌<◌, ◌≤◌, length, true, false, leb, Some, sym, subst, arith, rules, string_bytes}
-use Rattle.std.specs.List.Sorted.{IsNonDecreasingBy, IsPartitionPoint}
-use Rattle.std.proofs.lemmas.Bool.Decides.{nat_tests}
-use Rattle.std.proofs.lemmas.List.Sorted.{IsPartitionPoint-from_clause, IsPartitionedBy-leb}
-use Rattle.tables.specs.Found.{IsLeastAs}
-use Rattle.tables.specs.Queries.{ShowsDepositSerial, is_owned_after}
-use Rattle.tables.specs.declared.rows.Label.{Label}
-use Rattle.store.proofs.LabelRows.{rising, none_after, first_after}
+use Rattle.store.proofs.Words.{IsLeastAs, IsNonDecreasingBy, IsPartitionPoint, IsPartitionPoint-from_clause}
+use Rattle.store.proofs.Words.{IsPartitionedBy-leb, Label, ShowsDepositSerial, Some, arith, false, is_owned_after, leb}
+use Rattle.store.proofs.Words.{length, nat_tests, rules, string_bytes, subst, sym, true, ◌<◌, ◌≡◌, ◌≤◌}
+use Rattle.store.proofs.LabelRows.{first_after, none_after, rising}
 use Rattle.store.proofs.labels.Owned.number_after.Goals as goal
 
 pub returns-then-at-len : goal.returns-then-at-len

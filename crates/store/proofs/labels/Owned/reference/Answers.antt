@@ -1,10 +1,8 @@
-use Rattle.std.proofs.Common.{◌≡◌, ◌<◌, ◌≤◌, length, true, false, ltb, sym, ap, ◌∙◌, subst, arith, rules, string_bytes}
-use Rattle.std.specs.List.Sorted.{IsNonDecreasingBy, IsPartitionPoint}
-use Rattle.std.proofs.lemmas.Bool.Decides.{nat_tests}
-use Rattle.std.proofs.lemmas.List.Sorted.{IsPartitionPoint-from_clause, IsPartitionedBy-ltb}
-use Rattle.tables.specs.declared.rows.Label.{Label}
+use Rattle.store.proofs.Words.{IsNonDecreasingBy, IsPartitionPoint, IsPartitionPoint-from_clause, IsPartitionedBy-ltb}
+use Rattle.store.proofs.Words.{Label, ap, arith, false, length, ltb, nat_tests, rules, string_bytes, subst, sym, true}
+use Rattle.store.proofs.Words.{◌<◌, ◌∙◌, ◌≡◌, ◌≤◌}
 use Rattle.store.proofs.CursorMoves.{any_default}
-use Rattle.store.proofs.LabelRows.{rising, none_there, another_there, its_reference}
+use Rattle.store.proofs.LabelRows.{another_there, its_reference, none_there, rising}
 use Rattle.store.proofs.labels.Owned.reference.Goals as goal
 
 pub returns-then-at-len-clause-value : goal.returns-then-at-len-clause-value

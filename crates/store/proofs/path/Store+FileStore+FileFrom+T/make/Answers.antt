@@ -1,4 +1,4 @@
-use Rattle.sqlite.specs.Files.{over_files}
+use Rattle.store.proofs.Words.{over_files}
 use Rattle.store.proofs.Creation.{made_of_none}
 use Rattle.store.proofs.path.Store+FileStore+FileFrom+T.make.Goals as goal
 

@@ -1,4 +1,4 @@
-use Rattle.std.proofs.Common.{inr}
+use Rattle.store.proofs.Words.{inr}
 use Rattle.store.proofs.path.Store+FileStore+FileFrom+T.open_files.Goals as goal
 
 pub returns-in-Ok-clause-found : goal.returns-in-Ok-clause-found

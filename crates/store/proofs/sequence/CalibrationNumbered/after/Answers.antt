@@ -1,4 +1,4 @@
-use Rattle.std.proofs.Common.{◌∙◌}
+use Rattle.store.proofs.Words.{◌∙◌}
 use Rattle.store.proofs.AtNumber.{calibration_at}
 use Rattle.store.proofs.Calls.{looks_up_with}
 use Rattle.store.proofs.sequence.CalibrationNumbered.after.Goals as goal

@@ -1,6 +1,6 @@
-use Rattle.std.proofs.Common.{◌∙◌, sym}
+use Rattle.store.proofs.Words.{sym, ◌∙◌}
+use Rattle.store.proofs.Migration.{told_database, told_not_ours}
 use Rattle.store.specs.TablesOf.{tables_of}
-use Rattle.store.proofs.Migration.{told_not_ours, told_database}
 use Rattle.store.proofs.store.Store.adopt.Goals as goal
 
 pub returns-in-Err-clause-foreign : goal.returns-in-Err-clause-foreign

@@ -1,7 +1,5 @@
-use Rattle.std.proofs.Common.{◌<◌, length, map, sym, ◌∙◌, arith}
-use Rattle.std.proofs.lemmas.List.{length-map, get_or-map}
-use Rattle.book.specs.Values.{viewer_of}
-use Rattle.store.proofs.CursorMoves.{moved_own, moved_more, all_moved, any_default}
+use Rattle.store.proofs.Words.{arith, get_or-map, length, length-map, map, sym, viewer_of, ◌<◌, ◌∙◌}
+use Rattle.store.proofs.CursorMoves.{all_moved, any_default, moved_more, moved_own}
 use Rattle.store.proofs.Walk.{looks_after}
 use Rattle.store.proofs.store.Store.advance.Goals as goal
 

@@ -1,6 +1,5 @@
 -- The cursors of the account and of the groups so far have moved.
-use Rattle.std.proofs.Common.{map}
-use Rattle.book.specs.Values.{viewer_of}
+use Rattle.store.proofs.Words.{map, viewer_of}
 use Rattle.store.proofs.CursorMoves.{HasMoved}
 use Rattle.store.proofs.store.Store.advance.Given as goal
 

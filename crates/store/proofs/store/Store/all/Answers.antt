@@ -1,6 +1,5 @@
-use Rattle.std.proofs.Common.{◌≡◌, ◌∙◌, map, option_map, slice_get, ap, sym, subst}
-use Rattle.std.proofs.lemmas.List.{length-map}
-use Rattle.store.proofs.Gathered.{HasGathered, nothing_gathered, one_gathered, one_more, all_gathered}
+use Rattle.store.proofs.Words.{[], ap, length-map, map, map-append, option_map, slice_get, subst, sym, ◌∙◌, ◌∷◌, ◌≡◌}
+use Rattle.store.proofs.Gathered.{HasGathered, all_gathered, nothing_gathered, one_gathered}
 use Rattle.store.proofs.Walk.{looks_after}
 use Rattle.store.proofs.store.Store.all.Goals as goal
 
@@ -14,7 +13,7 @@ loop-found-preserved g c =
     let before = c.loop-found.found.items in
     let one = c.in-Some.one in
     subst (λ rows. HasGathered g.S.Store g.T.Numbered.all c.args.self.now c.after.new.self rows)
-    (sym (ap (map g.T.Numbered.value) c.in_ok-push.ensures.items ∙ one_more g.T.Numbered.value before one))
+    (sym (ap (map g.T.Numbered.value) c.in_ok-push.ensures.items ∙ map-append g.T.Numbered.value before (one ∷ [])))
     (one_gathered g.S.Store g.T.Numbered.all c.args.self.now c.loop-found.self c.after.new.self
     (map g.T.Numbered.value before) (g.T.Numbered.value one) c.len.result
     (c.len.ensures ∙ c.loop-found.found.ok.0 ∙ sym (length-map before g.T.Numbered.value))

@@ -1,5 +1,5 @@
 -- They are the first of all.
-use Rattle.std.proofs.Common.{◌-◌, ◌^◌, length, map}
+use Rattle.store.proofs.Words.{length, map, ◌-◌, ◌^◌}
 use Rattle.store.proofs.Gathered.{HasGathered}
 use Rattle.store.proofs.store.Store.all.Given as goal
 

@@ -1,6 +1,5 @@
-use Rattle.std.proofs.Common.{◌∙◌}
-use Rattle.book.specs.Entries.{reader_view}
-use Rattle.store.proofs.Calls.{looks_now, kept_seen}
+use Rattle.store.proofs.Words.{reader_view, ◌∙◌}
+use Rattle.store.proofs.Calls.{kept_seen, looks_now}
 use Rattle.store.proofs.Readers.{rights_are}
 use Rattle.store.proofs.store.Store.is_reader.Goals as goal
 

@@ -1,5 +1,5 @@
-use Rattle.store.proofs.Calls.{looks_now, kept_seen, no_answer}
-use Rattle.store.proofs.DepositAnswers.{without_origin, without_label, with_label}
+use Rattle.store.proofs.Calls.{kept_seen, looks_now, no_answer}
+use Rattle.store.proofs.DepositAnswers.{with_label, without_label, without_origin}
 use Rattle.store.proofs.Walk.{looks_after}
 use Rattle.store.proofs.store.Store.listing.Goals as goal
 

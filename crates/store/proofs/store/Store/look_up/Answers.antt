@@ -1,4 +1,4 @@
-use Rattle.store.proofs.Calls.{looks_now, kept_seen}
+use Rattle.store.proofs.Calls.{kept_seen, looks_now}
 use Rattle.store.proofs.LabelRows.{one_more_owned}
 use Rattle.store.proofs.store.Store.look_up.Goals as goal
 

@@ -1,6 +1,6 @@
-use Rattle.std.proofs.Common.{◌∙◌, sym}
+use Rattle.store.proofs.Words.{sym, ◌∙◌}
+use Rattle.store.proofs.Migration.{histories_left, migrated_as, refused_as, told_database, told_not_ours}
 use Rattle.store.specs.TablesOf.{tables_of}
-use Rattle.store.proofs.Migration.{migrated_as, refused_as, histories_left, told_not_ours, told_database}
 use Rattle.store.proofs.store.Store.migrate.Goals as goal
 
 pub returns-in-Ok-clause-migrates : goal.returns-in-Ok-clause-migrates

@@ -1,5 +1,5 @@
-use Rattle.book.specs.Entries.{reader_view}
-use Rattle.store.proofs.Calls.{looks_now, kept_seen}
+use Rattle.store.proofs.Words.{reader_view}
+use Rattle.store.proofs.Calls.{kept_seen, looks_now}
 use Rattle.store.proofs.Lists.{right_view}
 use Rattle.store.proofs.store.Store.next_right.Goals as goal
 

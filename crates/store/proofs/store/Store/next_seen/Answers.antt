@@ -1,10 +1,8 @@
-use Rattle.std.proofs.Common.{map, ap, sym, subst, ◌∙◌}
-use Rattle.std.proofs.lemmas.List.{length-map}
-use Rattle.book.specs.Values.{viewer_of}
-use Rattle.store.specs.Steps.{IsNextSeen, least_of, later_of}
+use Rattle.store.proofs.Words.{ap, length-map, map, subst, sym, viewer_of, ◌∙◌}
 use Rattle.store.proofs.Calls.{no_answer}
-use Rattle.store.proofs.Lists.{next_view, later_view}
+use Rattle.store.proofs.Lists.{later_view, next_view}
 use Rattle.store.proofs.Walk.{looks_after}
+use Rattle.store.specs.auxiliary.Steps.{IsNextSeen, later_of, least_of}
 use Rattle.store.proofs.store.Store.next_seen.Goals as goal
 
 pub returns-in_err-advance-clause-looks : goal.returns-in_err-advance-clause-looks

@@ -1,15 +1,10 @@
-use Rattle.std.proofs.Common.{◌≡◌, ℕ, ◌∙◌, sym, ap, subst, Result}
-use Rattle.tables.specs.Changes.{IsCounted}
-use Rattle.tables.specs.Faults.{fault_of}
-use Rattle.tables.specs.declared.fault.TableFault.{TableFault}
-use Rattle.tables.specs.declared.fault.TableFault.TheVariants as table
-use Rattle.book.specs.declared.fault.StoreFault.{StoreFault}
-use Rattle.book.specs.Entries.{Appends, entries_view}
-use Rattle.book.specs.Fault.{count_after}
-use Rattle.store.specs.Stands.{over_tables}
+use Rattle.store.proofs.Words.{Appends, IsCounted, Result, StoreFault, TableFault, ap, count_after, entries_view}
+use Rattle.store.proofs.Words.{fault_of, subst, sym, ℕ, ◌∙◌, ◌≡◌}
 use Rattle.store.proofs.Calls.{appends, refused}
+use Rattle.store.proofs.store.StoreBook.append.Goals.{in-Err, in-Ok}
+use Rattle.store.specs.Stands.{over_tables}
+use Rattle.tables.specs.declared.fault.TableFault.TheVariants as table
 use Rattle.store.proofs.store.StoreBook.append.Goals as goal
-use Rattle.store.proofs.store.StoreBook.append.Goals.{in-Ok, in-Err}
 
 counted : (f : TableFault) (old new : ℕ) → IsCounted f old new → new ≡ count_after (fault_of f) old
 counted table.Memory old new is = is

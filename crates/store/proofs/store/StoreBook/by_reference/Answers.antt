@@ -1,4 +1,4 @@
-use Rattle.store.proofs.Calls.{looks_now, kept_seen}
+use Rattle.store.proofs.Calls.{kept_seen, looks_now}
 use Rattle.store.proofs.DepositRows.{under_view_of}
 use Rattle.store.proofs.store.StoreBook.by_reference.Goals as goal
 

@@ -1,5 +1,5 @@
-use Rattle.std.proofs.Common.{◌∙◌}
-use Rattle.store.proofs.Calls.{looks_now, kept_seen}
+use Rattle.store.proofs.Words.{◌∙◌}
+use Rattle.store.proofs.Calls.{kept_seen, looks_now}
 use Rattle.store.proofs.Numbered.{calibration_view_of}
 use Rattle.store.proofs.store.StoreBook.calibration.Goals as goal
 

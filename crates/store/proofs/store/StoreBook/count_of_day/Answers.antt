@@ -1,6 +1,6 @@
-use Rattle.std.proofs.Common.{◌∙◌}
-use Rattle.store.proofs.Calls.{looks_now, kept_seen}
-use Rattle.store.proofs.Tallies.{count_view, asked_day}
+use Rattle.store.proofs.Words.{◌∙◌}
+use Rattle.store.proofs.Calls.{kept_seen, looks_now}
+use Rattle.store.proofs.Tallies.{asked_day, count_view}
 use Rattle.store.proofs.store.StoreBook.count_of_day.Goals as goal
 
 pub returns-in_err-count-clause-looks : goal.returns-in_err-count-clause-looks

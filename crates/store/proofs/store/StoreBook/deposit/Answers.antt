@@ -1,6 +1,6 @@
-use Rattle.book.proofs.Numbers.{stamped_beyond}
-use Rattle.store.proofs.Calls.{looks_now, looks_twice, kept_seen, no_answer}
-use Rattle.store.proofs.DepositAnswers.{without_deposit, without_stamp, with_both}
+use Rattle.store.proofs.Words.{stamped_beyond}
+use Rattle.store.proofs.Calls.{kept_seen, looks_now, looks_twice, no_answer}
+use Rattle.store.proofs.DepositAnswers.{with_both, without_deposit, without_stamp}
 use Rattle.store.proofs.store.StoreBook.deposit.Goals as goal
 
 pub returns-then-number-gt-GREATEST_NUMBER-clause-value : goal.returns-then-number-gt-GREATEST_NUMBER-clause-value

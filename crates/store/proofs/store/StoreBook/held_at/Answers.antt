@@ -1,6 +1,5 @@
-use Rattle.std.proofs.Common.{◌∙◌, ap, to_z-of_z}
-use Rattle.book.specs.History.{is_held}
-use Rattle.store.proofs.Calls.{looks_now, kept_seen}
+use Rattle.store.proofs.Words.{ap, is_held, to_z-of_z, ◌∙◌}
+use Rattle.store.proofs.Calls.{kept_seen, looks_now}
 use Rattle.store.proofs.Numbered.{held_view}
 use Rattle.store.proofs.store.StoreBook.held_at.Goals as goal
 

@@ -1,6 +1,5 @@
-use Rattle.std.proofs.Common.{◌∙◌}
-use Rattle.book.proofs.Numbers.{unowned_beyond}
-use Rattle.store.proofs.Calls.{looks_now, kept_seen, no_answer}
+use Rattle.store.proofs.Words.{unowned_beyond, ◌∙◌}
+use Rattle.store.proofs.Calls.{kept_seen, looks_now, no_answer}
 use Rattle.store.proofs.DepositRows.{own_view}
 use Rattle.store.proofs.store.StoreBook.is_owner.Goals as goal
 

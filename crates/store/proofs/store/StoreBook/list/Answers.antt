@@ -1,12 +1,11 @@
-use Rattle.std.proofs.Common.{◌<◌, ◌^◌, ◌∙◌, IfSome, map, replicate, ap, sym, subst}
-use Rattle.std.proofs.lemmas.List.{length-map}
 use Rattle.std.proofs.KnownBytes.{Keeps-refl, Keeps-trans}
-use Rattle.book.specs.Values.{listed_view, viewer_of}
-use Rattle.store.specs.Steps.{IsNextSeen, AreNextReadable}
+use Rattle.store.proofs.Words.{IfSome, ap, length-map, listed_view, map, replicate, subst, sym, viewer_of, ◌<◌, ◌^◌}
+use Rattle.store.proofs.Words.{◌∙◌}
 use Rattle.store.proofs.Calls.{no_answer}
 use Rattle.store.proofs.LabelRows.{none_owned}
-use Rattle.store.proofs.Walk.{HasListed, at_first, looks_after, sized_at_first, ahead_at_first, nothing_listed}
-use Rattle.store.proofs.Walk.{row_listed, whole_listed}
+use Rattle.store.proofs.Walk.{HasListed, ahead_at_first, at_first, looks_after, nothing_listed, row_listed}
+use Rattle.store.proofs.Walk.{sized_at_first, whole_listed}
+use Rattle.store.specs.auxiliary.Steps.{AreNextReadable, IsNextSeen}
 use Rattle.store.proofs.store.StoreBook.list.Goals as goal
 
 pub loop-known-init : goal.loop-known-init

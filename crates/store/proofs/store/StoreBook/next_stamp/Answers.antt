@@ -1,10 +1,7 @@
-use Rattle.std.proofs.Common.{◌≡◌, subst, sym, arith}
-use Rattle.tables.specs.Found.{IsLeastAs}
-use Rattle.tables.specs.Queries.{ShowsStamp, is_within}
-use Rattle.book.specs.Ranges.{IsNextStamp}
-use Rattle.store.specs.Replay.{replayed}
-use Rattle.store.proofs.Between.{next_view, empty_view, small_found}
-use Rattle.store.proofs.Calls.{looks_now, kept_seen}
+use Rattle.store.proofs.Words.{IsLeastAs, IsNextStamp, ShowsStamp, arith, is_within, subst, sym, ◌≡◌}
+use Rattle.store.proofs.Between.{empty_view, next_view, small_found}
+use Rattle.store.proofs.Calls.{kept_seen, looks_now}
+use Rattle.store.specs.auxiliary.Replay.{replayed}
 use Rattle.store.proofs.store.StoreBook.next_stamp.Goals as goal
 
 pub returns-then-from-last-clause-value : goal.returns-then-from-last-clause-value

@@ -1,8 +1,7 @@
-use Rattle.std.proofs.lemmas.Result.{IfOk-weaker}
-use Rattle.book.proofs.Numbers.{unseen_beyond}
-use Rattle.store.proofs.DepositRows.{seen_by_reader, seen_by_owner}
-use Rattle.store.proofs.Walk.{looks_after}
+use Rattle.store.proofs.Words.{IfOk-weaker, unseen_beyond}
 use Rattle.store.proofs.Calls.{no_answer}
+use Rattle.store.proofs.DepositRows.{seen_by_owner, seen_by_reader}
+use Rattle.store.proofs.Walk.{looks_after}
 use Rattle.store.proofs.store.StoreBook.visible.Goals as goal
 
 pub returns-then-number-gt-GREATEST_NUMBER-clause-value : goal.returns-then-number-gt-GREATEST_NUMBER-clause-value

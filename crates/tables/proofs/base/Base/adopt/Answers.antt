@@ -1,10 +1,9 @@
-use Rattle.std.proofs.Common.{◌≡◌, ◌≢◌, ◌∙◌, Option, None, Some, ap, sym, subst}
-use Rattle.sqlite.specs.Held.{state}
+use Rattle.tables.proofs.Words.{None, Option, Some, ap, state, subst, sym, ◌∙◌, ◌≡◌, ◌≢◌}
 use Rattle.tables.specs.Versions.{TellsVersion}
 use Rattle.tables.specs.declared.version.Version.{Version}
-use Rattle.tables.specs.declared.version.Version.TheVariants as version
 use Rattle.tables.proofs.BaseLemmas.{adopted_keeps}
 use Rattle.tables.proofs.MigrateLemmas.{in_now}
+use Rattle.tables.specs.declared.version.Version.TheVariants as version
 use Rattle.tables.proofs.base.Base.adopt.Goals as goal
 
 -- what was found to be of the version of now is of no other

@@ -1,6 +1,6 @@
-use Rattle.std.proofs.Common.{subst}
+use Rattle.tables.proofs.Words.{subst}
 use Rattle.tables.specs.QueryAnswers.{AreReadAs}
-use Rattle.tables.proofs.BaseReads.{read_on, fault_told, refused_too}
+use Rattle.tables.proofs.BaseReads.{fault_told, read_on, refused_too}
 use Rattle.tables.proofs.base.Base.all_as.Goals as goal
 
 pub returns-in-Ok : goal.returns-in-Ok

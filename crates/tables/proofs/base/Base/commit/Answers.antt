@@ -1,6 +1,6 @@
-use Rattle.book.specs.Entries.{entries_view}
+use Rattle.tables.proofs.Words.{entries_view}
 use Rattle.tables.specs.Changes.{applied_all}
-use Rattle.tables.proofs.BaseLemmas.{keeps_on, keeps_still, crash_leaves}
+use Rattle.tables.proofs.BaseLemmas.{crash_leaves, keeps_on, keeps_still}
 use Rattle.tables.proofs.base.Base.commit.Goals as goal
 
 pub returns-in-Ok-clause-ok : goal.returns-in-Ok-clause-ok

@@ -1,4 +1,4 @@
-use Rattle.book.specs.Entries.{entries_view}
+use Rattle.tables.proofs.Words.{entries_view}
 use Rattle.tables.proofs.BaseLemmas.{created_keeps}
 use Rattle.tables.proofs.base.Base.create.Goals as goal
 

@@ -1,21 +1,10 @@
-use Rattle.std.proofs.Common.{refl}
-use Rattle.tables.proofs.BaseReads.{fault_alone}
-use Rattle.tables.proofs.CellLemmas.{value_more}
-use Rattle.tables.proofs.DepositLookups.{asks_deposit, finds_deposit}
-use Rattle.tables.proofs.FoundLemmas.{found_looks}
+use Rattle.tables.proofs.Words.{refl}
 use Rattle.tables.specs.Queries.{ShowsDeposit}
+use Rattle.tables.proofs.FoundLemmas.{found_looks}
+use Rattle.tables.proofs.Lookups.{finds_deposit}
 use Rattle.tables.proofs.base.Base.deposit.Goals as goal
-
-pub first_as-requires : goal.first_as-requires
-first_as-requires g c = asks_deposit.text
 
 pub returns : goal.returns
 returns g c =
-    found_looks g.S.Store _ (value_more _ _ c.in_ok-serial.ensures.value refl)
-    _ _ _ ShowsDeposit (λ x row found is read. read x is)
-    _ (rw c.in_ok-serial.ensures.same at c.first_as.ensures) (finds_deposit c.args.serial)
-
-pub returns-in_err-serial : goal.returns-in_err-serial
-returns-in_err-serial g c =
-    fault_alone g.S.Store _ _ _ _ _ c.from_residual.ensures.1
-    c.in_err-serial.ensures.unasked c.in_err-serial.ensures.counted
+    found_looks g.S.Store _ refl _ _ _ ShowsDeposit (λ x row found is read. read x is)
+    _ c.first_at.ensures (finds_deposit c.args.serial)

@@ -1,12 +1,9 @@
-use Rattle.std.proofs.Common.{refl}
-use Rattle.tables.proofs.CellLemmas.{text_more}
-use Rattle.tables.proofs.DepositLookups.{asks_deposit_under, finds_deposit_under}
-use Rattle.tables.proofs.FoundLemmas.{found_looks}
+use Rattle.tables.proofs.Words.{refl}
 use Rattle.tables.specs.Queries.{ShowsDeposit}
+use Rattle.tables.proofs.CellLemmas.{text_more}
+use Rattle.tables.proofs.FoundLemmas.{found_looks}
+use Rattle.tables.proofs.Lookups.{finds_deposit_under}
 use Rattle.tables.proofs.base.Base.deposit_under.Goals as goal
-
-pub first_as-requires : goal.first_as-requires
-first_as-requires g c = asks_deposit_under.text
 
 pub returns : goal.returns
 returns g c =

@@ -1,12 +1,9 @@
-use Rattle.std.proofs.Common.{refl}
-use Rattle.tables.proofs.FoundLemmas.{greatest_looks}
-use Rattle.tables.proofs.ReadCells.{last_read}
-use Rattle.tables.proofs.StampLookups.{asks_last_stamp, finds_last_stamp}
+use Rattle.tables.proofs.Words.{refl}
 use Rattle.tables.specs.Queries.{ShowsLast}
+use Rattle.tables.proofs.FoundLemmas.{greatest_looks}
+use Rattle.tables.proofs.Lookups.{finds_last_stamp}
+use Rattle.tables.proofs.ReadCells.{last_read}
 use Rattle.tables.proofs.base.Base.greatest_stamp.Goals as goal
-
-pub first_as-requires : goal.first_as-requires
-first_as-requires g c = asks_last_stamp.text
 
 pub returns : goal.returns
 returns g c =

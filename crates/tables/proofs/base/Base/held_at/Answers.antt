@@ -1,14 +1,10 @@
-use Rattle.std.proofs.Common.{SFits, refl, rules, to_z-of_z, w64}
+use Rattle.tables.proofs.Words.{SFits, refl, rules, to_z-of_z, w64}
 use Rattle.tables.proofs.CellLemmas.{int_more}
 use Rattle.tables.proofs.FoundLemmas.{any_looks}
-use Rattle.tables.proofs.OtherLookups.{asks_hold_at, finds_hold_at}
+use Rattle.tables.proofs.Lookups.{finds_hold_at}
 use Rattle.tables.proofs.base.Base.held_at.Goals as goal
-
-pub any_row-requires : goal.any_row-requires
-any_row-requires g c = asks_hold_at.text
 
 pub returns : goal.returns
 returns g c =
     let fits : SFits w64 c.args.now = search rules in
-    any_looks g.S.Store _ (int_more (to_z-of_z fits) refl) _ _ _
-    c.any_row.ensures (finds_hold_at c.args.now)
+    any_looks g.S.Store _ (int_more (to_z-of_z fits) refl) _ _ _ c.any_row.ensures (finds_hold_at c.args.now)

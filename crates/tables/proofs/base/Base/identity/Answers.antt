@@ -1,21 +1,10 @@
-use Rattle.std.proofs.Common.{refl}
-use Rattle.tables.proofs.BaseReads.{fault_alone}
-use Rattle.tables.proofs.CellLemmas.{value_more}
-use Rattle.tables.proofs.FoundLemmas.{found_looks}
-use Rattle.tables.proofs.OtherLookups.{asks_identity, finds_identity}
+use Rattle.tables.proofs.Words.{refl}
 use Rattle.tables.specs.Queries.{ShowsIdentity}
+use Rattle.tables.proofs.FoundLemmas.{found_looks}
+use Rattle.tables.proofs.Lookups.{finds_identity}
 use Rattle.tables.proofs.base.Base.identity.Goals as goal
-
-pub first_as-requires : goal.first_as-requires
-first_as-requires g c = asks_identity.text
 
 pub returns : goal.returns
 returns g c =
-    found_looks g.S.Store _ (value_more _ _ c.in_ok-number.ensures.value refl)
-    _ _ _ ShowsIdentity (λ x row found is read. read x is)
-    _ (rw c.in_ok-number.ensures.same at c.first_as.ensures) (finds_identity c.args.number)
-
-pub returns-in_err-number : goal.returns-in_err-number
-returns-in_err-number g c =
-    fault_alone g.S.Store _ _ _ _ _ c.from_residual.ensures.1
-    c.in_err-number.ensures.unasked c.in_err-number.ensures.counted
+    found_looks g.S.Store _ refl _ _ _ ShowsIdentity (λ x row found is read. read x is)
+    _ c.first_at.ensures (finds_identity c.args.number)

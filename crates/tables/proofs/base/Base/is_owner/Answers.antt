@@ -1,12 +1,9 @@
-use Rattle.std.proofs.Common.{refl}
+use Rattle.tables.proofs.Words.{refl}
 use Rattle.tables.proofs.BaseReads.{fault_alone}
 use Rattle.tables.proofs.CellLemmas.{text_more, value_more}
-use Rattle.tables.proofs.DepositLookups.{asks_is_owner, finds_is_owner}
 use Rattle.tables.proofs.FoundLemmas.{any_looks}
+use Rattle.tables.proofs.Lookups.{finds_is_owner}
 use Rattle.tables.proofs.base.Base.is_owner.Goals as goal
-
-pub any_row-requires : goal.any_row-requires
-any_row-requires g c = asks_is_owner.text
 
 pub returns : goal.returns
 returns g c =

@@ -1,13 +1,9 @@
-use Rattle.std.proofs.Common.{refl}
-use Rattle.book.specs.Entries.{reader_view}
+use Rattle.tables.proofs.Words.{reader_view, refl}
 use Rattle.tables.proofs.BaseReads.{fault_alone}
 use Rattle.tables.proofs.CellLemmas.{text_more, value_more}
 use Rattle.tables.proofs.FoundLemmas.{any_looks}
-use Rattle.tables.proofs.RightLemmas.{asks_is_reader, finds_is_reader}
+use Rattle.tables.proofs.Lookups.{finds_is_reader}
 use Rattle.tables.proofs.base.Base.is_reader.Goals as goal
-
-pub any_row-requires : goal.any_row-requires
-any_row-requires g c = rw c.in_table.ensures.statement (asks_is_reader (reader_view c.args.reader)).text
 
 pub returns : goal.returns
 returns g c =

@@ -1,12 +1,9 @@
-use Rattle.std.proofs.Common.{refl}
-use Rattle.tables.proofs.CellLemmas.{text_more}
-use Rattle.tables.proofs.DepositLookups.{asks_labels, finds_labels}
-use Rattle.tables.proofs.FoundLemmas.{all_looks}
+use Rattle.tables.proofs.Words.{refl}
 use Rattle.tables.specs.Queries.{label_view}
+use Rattle.tables.proofs.CellLemmas.{text_more}
+use Rattle.tables.proofs.FoundLemmas.{all_looks}
+use Rattle.tables.proofs.Lookups.{finds_labels}
 use Rattle.tables.proofs.base.Base.labels.Goals as goal
-
-pub all_as-requires : goal.all_as-requires
-all_as-requires g c = asks_labels.text
 
 pub returns : goal.returns
 returns g c =

@@ -1,15 +1,11 @@
-use Rattle.std.proofs.Common.{refl}
-use Rattle.book.specs.Entries.{reader_view}
+use Rattle.tables.proofs.Words.{reader_view, refl}
 use Rattle.tables.specs.Queries.{ShowsReaderSerial}
 use Rattle.tables.proofs.BaseReads.{fault_alone}
 use Rattle.tables.proofs.CellLemmas.{text_more, value_more}
 use Rattle.tables.proofs.FoundLemmas.{least_looks}
+use Rattle.tables.proofs.Lookups.{finds_next_readable}
 use Rattle.tables.proofs.ReadCells.{number_of}
-use Rattle.tables.proofs.RightLemmas.{asks_next_readable, finds_next_readable}
 use Rattle.tables.proofs.base.Base.next_readable.Goals as goal
-
-pub first_number-requires : goal.first_number-requires
-first_number-requires g c = rw c.in_table.ensures.statement (asks_next_readable (reader_view c.args.reader)).text
 
 pub returns-clause-looks : goal.returns-clause-looks
 returns-clause-looks g c =

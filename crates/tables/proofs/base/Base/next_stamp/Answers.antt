@@ -1,12 +1,9 @@
-use Rattle.std.proofs.Common.{refl}
+use Rattle.tables.proofs.Words.{refl}
+use Rattle.tables.specs.Queries.{ShowsStamp}
 use Rattle.tables.proofs.CellLemmas.{value_more}
 use Rattle.tables.proofs.FoundLemmas.{least_looks}
-use Rattle.tables.proofs.StampLookups.{asks_next_stamp, finds_next_stamp}
-use Rattle.tables.specs.Queries.{ShowsStamp}
+use Rattle.tables.proofs.Lookups.{finds_next_stamp}
 use Rattle.tables.proofs.base.Base.next_stamp.Goals as goal
-
-pub first_as-requires : goal.first_as-requires
-first_as-requires g c = asks_next_stamp.text
 
 pub returns : goal.returns
 returns g c =

@@ -1,5 +1,5 @@
-use Rattle.std.proofs.Common.{refl}
-use Rattle.tables.proofs.BaseReads.{reads_only, fault_told}
+use Rattle.tables.proofs.Words.{refl}
+use Rattle.tables.proofs.BaseReads.{fault_told, reads_only}
 use Rattle.tables.proofs.base.Base.rows.Goals as goal
 
 pub returns-in-Ok : goal.returns-in-Ok
@@ -8,7 +8,7 @@ returns-in-Ok g c = rw (← c.self.view_is) (record {
   opened = c.in-Ok.ensures.opened;
   value = λ honest t keeps.
       let is = (keeps (c.rows_of.ensures.looks.clean honest) (c.in-Ok.ensures.opened honest)).database in
-      (_, is.holds, c.in-Ok.ensures.told honest is.schema);
+      (_, is.holds, λ text. c.in-Ok.ensures.told text honest is.schema);
   counted = tt;
   uncounted = refl;
 })

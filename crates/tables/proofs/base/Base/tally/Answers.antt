@@ -1,13 +1,10 @@
-use Rattle.std.proofs.Common.{refl}
+use Rattle.tables.proofs.Words.{refl}
+use Rattle.tables.specs.Queries.{ShowsCount}
 use Rattle.tables.proofs.CellLemmas.{text_more, value_more}
 use Rattle.tables.proofs.FoundLemmas.{found_looks}
-use Rattle.tables.proofs.OtherLookups.{asks_tally, finds_tally}
+use Rattle.tables.proofs.Lookups.{finds_tally}
 use Rattle.tables.proofs.ReadCells.{number_of}
-use Rattle.tables.specs.Queries.{ShowsCount}
 use Rattle.tables.proofs.base.Base.tally.Goals as goal
-
-pub first_number-requires : goal.first_number-requires
-first_number-requires g c = asks_tally.text
 
 pub returns : goal.returns
 returns g c =

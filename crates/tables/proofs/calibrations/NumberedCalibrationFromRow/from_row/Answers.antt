@@ -1,5 +1,4 @@
-use Rattle.std.proofs.Common.{◌∙◌, ap, sym, rules, w64, SFits, to_z-of_z}
-use Rattle.sqlite_value.specs.declared.value.Value.TheVariants.{Int}
+use Rattle.tables.proofs.Words.{Int, SFits, ap, rules, sym, to_z-of_z, w64, ◌∙◌}
 use Rattle.tables.proofs.calibrations.NumberedCalibrationFromRow.from_row.Goals as goal
 
 pub returns : goal.returns

@@ -17,7 +17,7 @@ use Rattle.book.specs.Rights.{ListedValue, listed_as, is_reader, is_visible}
 use Rattle.book.specs.Sound.{greatest_number}
 use Rattle.book.specs.Rows.{DepositRow}
 use Rattle.book.specs.declared.values.Last.{Last}
-use Rattle.store.specs.Replay.{replayed}
+use Rattle.store.specs.auxiliary.Replay.{replayed}
 use Rattle.store.specs.declared.labels.Owned.{Owned}
 
 abbrev pub last_from : Option LastStamp → Last

@@ -1,0 +1,4 @@
+pub mod Creation
+pub mod Shown
+pub mod Steps
+pub mod Told
