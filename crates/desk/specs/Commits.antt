@@ -13,7 +13,14 @@ abbrev pub call_for : {A : Type 0} → Result A StoreFault → Call
 call_for (Ok done) = Fine
 call_for (Err fault) = call_of fault
 
--- What it does: nothing where there is none to add; else they are added, or it is refused.
+-- these, where a commit was answered so, and none where it was refused
+abbrev pub if_accepted : {A : Type 0} → Call → List A → List A
+if_accepted Fine xs = xs
+if_accepted _ xs = []
+
+-- What it does: nothing where there is none to add; else they are added, or it is refused. Of entries that fit some
+-- history that says something of every store, whatever it returns: a body over any `Book` can show `Appends` only of
+-- what it gave to `append`.
 pub data IsCommitted {B : Type 0} (g : Ghosts B) (entries : List Entry) (old new : B) (call : Call) : Type 0 where
   untried : entries ≡ [] → call ≡ Fine → new ≡ old → IsCommitted g entries old new call
   added : (entries ≡ [] → ⊥) → call ≡ Fine → Appends {A = Unit {0}} g entries old new (Ok tt)

@@ -42,7 +42,8 @@ KeepsOnceSearched s a reading reference bytes o b None e = KeepsByReference s a 
 
 -- a deposit has at most 1,048,576 octets
 abbrev pub KeepsWithinSize : Setting → AccountValue → ℤ → List ℕ → List ℕ → Outcome → History → Bool → Effect → Type 0
-KeepsWithinSize s a reading reference bytes o b true e = KeepsOnceSearched s a reading reference bytes o b (cause_of o.searching) e
+KeepsWithinSize s a reading reference bytes o b true e =
+    KeepsOnceSearched s a reading reference bytes o b (cause_of o.searching) e
 KeepsWithinSize s a reading reference bytes o b false e = e ≡ only too_large
 
 -- the effect that a command has on a history

@@ -57,8 +57,8 @@ Obeys g signs count s c old x s' new y answer =
     IsBareStep g (with_signer signs count x y) s c old new answer × (s' ≡ setting_after s c answer)
     × (g.honest new → WasOpen g c answer old)
 
--- Each call is a step under its outcome, from what the one before it left of setting, store and signer, and the last one
--- leaves the second setting.
+-- Each call is a step under its outcome, from what the one before it left of setting, store and signer, and the last
+-- one leaves the second setting.
 abbrev pub AreSteps : {B X : Type 0} → Ghosts B → (X → List ℕ → Result (List ℕ) SignerFault → X → Type 0) → (X → ℕ)
     → Setting → List Command → List Outcome → List Answer → B → X → Setting → B → X → Type 0
 AreSteps g signs count s [] [] [] old x s' new y = (s' ≡ s) × (new ≡ old) × (y ≡ x)
@@ -135,8 +135,8 @@ pub record HasRun {B X : Type 0} (g : Ghosts B) (signs : X → List ℕ → Resu
   -- and the store stands for that history.
   pub stands : Stands g history new
   pub left : (left : g.Left) → g.leaves new left → May history left
-  -- Each journey that ends in b with this setting goes on by these commands, whatever the outcomes, to their end or to a
-  -- stop in one of them, and keeps its promises there.
+  -- Each journey that ends in b with this setting goes on by these commands, whatever the outcomes, to their end or to
+  -- a stop in one of them, and keeps its promises there.
   pub journeys : (w : List Told) → Journey b (Some s) w → (outcomes : List Outcome) (b' : History)
       (x' : Option Setting) (w' : List Told)
       → AreMet s cs outcomes b → Continues s cs outcomes b w b' x' w' → GoesOn b' x' w'

@@ -1,15 +1,15 @@
 -- What goes out to the signer while stamps are answered together.
-use Rattle.std.specs.Prelude.{◌≡◌, ◌⊎◌, ℕ, List, [], ◌∷◌, map}
-use Rattle.policy.specs.Record.{PolicyValue}
+use Rattle.std.specs.Prelude.{◌≡◌, ℕ, List, map}
 use Rattle.book.specs.declared.standing.Standing.{Ghosts}
 use Rattle.book.specs.History.{History, ReservationValue}
 use Rattle.book.specs.Stands.{Stands}
 use Rattle.cms.specs.SignedData.{attribute_text}
 use Rattle.desk.specs.Batches.{Question, HaveEffects, all_reserved, batch_of, after_batch}
 use Rattle.desk.specs.Command.{Setting}
+use Rattle.desk.specs.Commits.{if_accepted}
 use Rattle.desk.specs.Effects.{Effect}
-use Rattle.desk.specs.Outcome.{Outcome}
-use Rattle.desk.specs.Together.{FailsUnasked}
+use Rattle.desk.specs.Outcome.{Call, Outcome}
+use Rattle.desk.specs.Together.{IsCommittedTogether}
 
 -- the texts of reservations, in their order
 abbrev pub texts_for : Setting → List ReservationValue → List (List ℕ)
@@ -24,19 +24,13 @@ pub record IsBatch {B : Type 0} (g : Ghosts B) (s : Setting) (asked : List Quest
   pub reserves : all_reserved effects ≡ reserved
   pub stands : Stands g (after_batch (batch_of effects) b) new
 
--- These are for the stamps, in their order: at most one for each, and none for one that fails one of the rules 1 to 9.
-abbrev pub AreForThosePassing : PolicyValue → List Question → List ReservationValue → Type 0
-AreForThosePassing file [] rs = rs ≡ []
-AreForThosePassing file (a ∷ asked) rs =
-    AreForThosePassing file asked rs
-    ⊎ ((FailsUnasked file a → ⊥) × (r : ReservationValue) × (rest : List ReservationValue) × (rs ≡ r ∷ rest)
-    × AreForThosePassing file asked rest)
-
--- Whatever fails, and whatever the store returns: nothing goes out but texts of what is reserved for stamps that pass
--- the rules 1 to 9, in order, each at most once; and while it returns what was written, these are the reservations.
+-- Whatever fails, and whatever the store returns: nothing goes out but texts of what the first commit reserved, once it
+-- was accepted, in order, each at most once; and while the store returns what was written, these are the reservations.
 pub record SendsReserved {B S : Type 0} (g : Ghosts B) (sent : S → List (List ℕ) → S → Type 0) (s : Setting)
     (asked : List Question) (old : B) (x : S) (new : B) (y : S) : Type 0 where
-  pub reserved : List ReservationValue
-  pub passing : AreForThosePassing s.file asked reserved
-  pub sends : sent x (texts_for s reserved) y
-  pub batch : g.honest new → (b : History) → Stands g b old → IsBatch g s asked reserved b new
+  pub reserving : Call
+  pub sealing : Call
+  pub commits : IsCommittedTogether g s.file asked reserving sealing old new
+  pub sends : sent x (texts_for s (if_accepted reserving commits.reserved)) y
+  pub batch : g.honest new → (b : History) → Stands g b old
+      → IsBatch g s asked (if_accepted reserving commits.reserved) b new

@@ -9,15 +9,19 @@ use Rattle.cms.specs.declared.signer.SignerFault.{SignerFault}
 use Rattle.cms.specs.declared.signer.SignerFault.TheVariants as signer
 use Rattle.decide.specs.View.{account_asked}
 use Rattle.book.specs.declared.standing.Standing.{Ghosts}
-use Rattle.book.specs.History.{Entry, History}
+use Rattle.book.specs.History.{Entry, Reserved, History, ReservationValue}
 use Rattle.book.specs.Shows.{ShowsSame}
+use Rattle.book.specs.Sound.{IsSound}
 use Rattle.book.specs.Stands.{Stands, OnlyLooks}
 use Rattle.desk.specs.Outcome.{Call, Fine, Outcome, counted}
 use Rattle.desk.specs.MachineRuns.{Runs, Told}
 use Rattle.desk.specs.RunContract.{ArePromised}
 use Rattle.desk.specs.Findings.{HoldsUnasked}
 use Rattle.desk.specs.Command.{Setting, Answer, Rejected}
-use Rattle.desk.specs.Batches.{Question, stamp_for, stamps_for, IsCutTogether, faults_along}
+use Rattle.desk.specs.Batches.{Question, SealValue, stamp_for, stamps_for, seal_entry, with_reserved}
+use Rattle.desk.specs.Batches.{IsCutTogether, faults_along}
+use Rattle.desk.specs.Commits.{IsCommitted, if_accepted}
+use Rattle.desk.specs.Effects.{name_of}
 use Rattle.desk.specs.Fit.{IsFit}
 use Rattle.desk.specs.declared.batch.Asked.{Asked}
 use Rattle.desk.specs.declared.findings.Requested.{Requested}
@@ -101,9 +105,38 @@ AreRejectedUnasked file [] (answer ∷ answers) os = ⊥
 AreRejectedUnasked file (a ∷ asked) [] os = ⊥
 AreRejectedUnasked file (a ∷ asked) (answer ∷ answers) [] = ⊥
 
+-- in their order, each of these is of another of those, at most one of each
+abbrev pub AreOfSome : {X Y : Type 0} → (X → Y → Type 0) → List X → List Y → Type 0
+AreOfSome IsOf xs [] = Unit {0}
+AreOfSome IsOf [] (y ∷ ys) = ⊥
+AreOfSome IsOf (x ∷ xs) (y ∷ ys) = (IsOf x y × AreOfSome IsOf xs ys) ⊎ AreOfSome IsOf xs (y ∷ ys)
+
+-- it is for a stamp that passes the rules 1 to 9, by its octets
+abbrev pub IsForPassing : PolicyValue → Question → ReservationValue → Type 0
+IsForPassing file a r = (FailsUnasked file a → ⊥) × (r.account ≡ name_of a.account) × (r.request ≡ a.octets)
+
+-- The two commits, whatever the store returns: of reservations for stamps that pass the rules 1 to 9, and, once they
+-- are accepted, of tokens under their numbers. Besides, the store is only looked at.
+pub record IsCommittedTogether {B : Type 0} (g : Ghosts B) (file : PolicyValue) (asked : List Question)
+    (reserving sealing : Call) (old new : B) : Type 0 where
+  pub reserved : List ReservationValue
+  pub passing : AreOfSome (IsForPassing file) asked reserved
+  -- there are histories that they fit, so that their commit is of none else
+  pub fit : IsSound (with_reserved reserved [])
+  pub sealed : List SealValue
+  pub numbers : AreOfSome (λ r v. v.serial ≡ r.serial) (if_accepted reserving reserved) sealed
+  -- the store before and after the first, and before the second
+  pub judged : B
+  pub held : B
+  pub signed : B
+  pub looks : OnlyLooks g old judged
+  pub reserves : IsCommitted g (map Reserved reserved) judged held reserving
+  pub waits : OnlyLooks g held signed
+  pub seals : IsCommitted g (map seal_entry sealed) signed new sealing
+
 -- Stamps that are answered together are a run, under outcomes that fit them. The store counts what their judging met,
--- and the two commits: of all reservations, and of all seals. By the rules 1 to 9 each is judged whatever store and
--- signer do; where each fails one of them, nothing is added and the signer isn't asked.
+-- and the two commits. By the rules 1 to 9 each is judged whatever store and signer do, and nothing is added for one
+-- that fails one of them; where nothing is reserved, the signer isn't asked.
 pub record IsAnsweredTogether {B S : Type 0} (g : Ghosts B)
     (signs : S → List ℕ → Result (List ℕ) SignerFault → S → Type 0) (count : S → ℕ) (s : Setting)
     (asked : List Question) (answers : List Answer) (old : B) (x : S) (new : B) (y : S) : Type 0 where
@@ -117,5 +150,6 @@ pub record IsAnsweredTogether {B S : Type 0} (g : Ghosts B)
   pub counted : g.fault_count new ≡ counted sealing (counted reserving (faults_along looks (g.fault_count old)))
   pub signer : count y ≡ count_after_each (map (λ o. o.signing) outcomes) (count x)
   pub judged : AreRejectedUnasked s.file asked answers outcomes
-  pub unasked : AllByRecursion (FailsUnasked s.file) asked → OnlyLooks g old new × (y ≡ x)
+  pub commits : IsCommittedTogether g s.file asked reserving sealing old new
+  pub unasked : if_accepted reserving commits.reserved ≡ [] → y ≡ x
   pub run : g.honest new → (b : History) → Stands g b old → RunsTogether g signs s asked outcomes answers b old x new y

@@ -9,7 +9,7 @@ ghost use Rattle.book.specs.Values.{calibration_view, hold_view};
 ghost use Rattle.desk.specs.Answers.{entered};
 ghost use Rattle.desk.specs.CallContract.{StepsBy, IsStep, no_signer};
 ghost use Rattle.desk.specs.Command.{Setting, Calibrate, Hold as AddHold};
-ghost use Rattle.desk.specs.Obstacles.{adding, outcome_with, told_with};
+ghost use Rattle.desk.specs.auxiliary.Obstacles.{adding, outcome_with, told_with};
 ghost use Rattle.desk.specs.Shown.{numbered_as};
 
 use crate::desk::Desk;

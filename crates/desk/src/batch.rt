@@ -70,8 +70,8 @@ impl<'p, B: Book + Drop> Desk<'p, B> {
     ///
     /// Nothing goes out to the signer but texts of what was reserved, in order, each at most once, whatever fails.
     ///
-    /// Room for verdicts, signatures, tokens and replies is taken first: where it is refused, the answer is `Memory`, and
-    /// nothing is done.
+    /// Room for verdicts, signatures, tokens and replies is taken first: where it is refused, the answer is `Memory`,
+    /// and nothing is done.
     pub fn answer_each<G: Signer>(
         &mut self,
         asked: &[Asked<'_>],

@@ -5,12 +5,12 @@ ghost use Rattle.book.specs.Fault.{IsOfStorage};
 ghost use Rattle.book.specs.History.{Reserved};
 ghost use Rattle.desk.specs.Calls.{settings_view};
 ghost use Rattle.desk.specs.Commits.{call_for, IsCommitted};
-ghost use Rattle.desk.specs.Halves.{AreBegun, HasRoom};
+ghost use Rattle.desk.specs.auxiliary.Halves.{AreBegun, HasRoom};
 ghost use Rattle.desk.specs.Effects.{rule_by as rule_for};
 ghost use Rattle.desk.specs.Outcome.{Call, Fine, Outcome, Refusal};
 ghost use Rattle.desk.specs.Together.{question_view, questions_view};
-ghost use Rattle.desk.specs.Verdicts.{verdict_of, Settled, JudgesEach, JudgesOne};
-ghost use Rattle.desk.specs.Verdicts.{IsKept};
+ghost use Rattle.desk.specs.auxiliary.Verdicts.{verdict_of, Settled, JudgesEach, JudgesOne};
+ghost use Rattle.desk.specs.auxiliary.Verdicts.{IsKept};
 ghost use Rattle.desk.specs.WaitingStamps.{waiting_view};
 
 use crate::batch::Asked;
@@ -143,8 +143,8 @@ fn settle_each<B: Book + Drop>(
 }
 
 /// Begins stamps together: each is judged by the history with the reservations of those before it, and all that no rule
-/// refuses are reserved in one commit, their texts written before it. Where that commit is refused, none waits. Room for
-/// all that is written until they are answered is taken first: where it is refused, nothing is done.
+/// refuses are reserved in one commit, their texts written before it. Where that commit is refused, none waits. Room
+/// for all that is written until they are answered is taken first: where it is refused, nothing is done.
 pub(crate) fn begin_each<'p, 'a, B: Book + Drop>(
     store: &mut B,
     alloc: Global,

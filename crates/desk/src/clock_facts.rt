@@ -1,8 +1,8 @@
 //! What the store says of the clock.
-ghost use Rattle.std.specs.Prelude.{◌≡◌, ℕ, ◌≤◌, pos, Option, Some, None, option_map, IfOk, IfErr};
+ghost use Rattle.std.specs.Prelude.{◌≡◌, ℕ, ◌≤◌, [], pos, Option, Some, None, option_map, IfOk, IfErr};
 ghost use Rattle.std.specs.Prelude.{MatchOption};
 ghost use Rattle.gentime.specs.GenTime.{last_moment};
-ghost use Rattle.book.specs.History.{History};
+ghost use Rattle.book.specs.History.{History, greatest_serial};
 ghost use Rattle.book.specs.Sound.{IsSound};
 ghost use Rattle.book.specs.Stands.{Stands, OnlyLooks};
 ghost use Rattle.book.specs.Fault.{CountsFaults, IsOfStorage};
@@ -129,6 +129,8 @@ pub(crate) fn look_among<B: Book + Drop>(
     ensures value { B.honest store.new → (b : History) → Stands B.Standing b store.old
         → IsSound (with_waiting waits.now b)
         → IfOk result (λ looked. looked ≡ looked_at reading (with_waiting waits.now b)) }
+    ensures rises { IsSound (with_waiting waits.now [])
+        → IfOk result (λ looked. greatest_serial (with_waiting waits.now []) ≤ looked.serial) }
     ensures refusals { IfErr result IsOfStorage }
     ensures faults { CountsFaults result (B.fault_count store.old) (B.fault_count store.new) }
 {

@@ -8,10 +8,10 @@ ghost use Rattle.cms.specs.Signer.{signed_by, IsSized};
 ghost use Rattle.desk.specs.Answers.{reply_as};
 ghost use Rattle.desk.specs.Batches.{seal_entry};
 ghost use Rattle.desk.specs.Calls.{settings_view};
-ghost use Rattle.desk.specs.Commits.{call_for, IsCommitted};
-ghost use Rattle.desk.specs.Completions.{seal_view, AreWritten, IsWrittenMore};
-ghost use Rattle.desk.specs.Halves.{AreFinished, HasRoom};
-ghost use Rattle.desk.specs.Verdicts.{merged, reply_for, replies_by};
+ghost use Rattle.desk.specs.Commits.{call_for, if_accepted, IsCommitted};
+ghost use Rattle.desk.specs.auxiliary.Completions.{seal_view, AreWritten, IsWrittenMore};
+ghost use Rattle.desk.specs.auxiliary.Halves.{AreFinished, HasRoom};
+ghost use Rattle.desk.specs.auxiliary.Verdicts.{merged, reply_for};
 ghost use Rattle.desk.specs.WaitingStamps.{pending_in, pendings_in};
 
 use crate::commit::commit;
@@ -175,7 +175,7 @@ fn merge(verdicts: &[Option<Rule>], completed: Vec<Reply>, replies: &mut Vec<Rep
 /// The replies to the stamps that waited, where their tokens are sealed, and else none.
 fn told_by(sealed: Result<(), StoreFault>, written: WrittenBatch) -> Vec<Reply>
     requires storage { IfErr sealed IsOfStorage }
-    ensures { map reply_as result.items ≡ replies_by (call_for sealed) (map reply_as written.replies.items) }
+    ensures { map reply_as result.items ≡ if_accepted (call_for sealed) (map reply_as written.replies.items) }
 {
     let WrittenBatch { seals: _, replies } = written;
     let mut told = replies;

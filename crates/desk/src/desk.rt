@@ -49,7 +49,7 @@ pub struct Desk<'p, B: Book + Drop> {
 
 impl<'p, B: Book + Drop> Model for Desk<'p, B> {
     ghost use Rattle.desk.specs.CallContract.{DeskValue};
-    ghost use Rattle.desk.specs.Codes.{desk_code};
+    ghost use Rattle.desk.specs.auxiliary.Codes.{desk_code};
 
     ghost Value = { DeskValue B };
 

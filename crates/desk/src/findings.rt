@@ -1,5 +1,5 @@
 //! What is found of a request before anything is reserved.
-ghost use Rattle.std.specs.Prelude.{◌≡◌, ℕ, ◌≤◌, List, None, length, IfOk, IfErr, IsErrAnd};
+ghost use Rattle.std.specs.Prelude.{◌≡◌, ℕ, ◌≤◌, List, [], None, length, IfOk, IfErr, IsErrAnd};
 ghost use Rattle.policy.specs.View.{policy_view};
 ghost use Rattle.tsp.specs.Request.{Spells};
 ghost use Rattle.tsp.specs.View.{request_view};
@@ -11,7 +11,7 @@ ghost use Rattle.book.specs.Sound.{IsSound};
 ghost use Rattle.book.specs.Stands.{Stands, OnlyLooks};
 ghost use Rattle.tsp.specs.Rules.{HasVersionOne, IsFirstFailing};
 ghost use Rattle.tsp.specs.declared.rule.Rule.{Rule};
-ghost use Rattle.desk.specs.NewDeposit.{FailsLate};
+ghost use Rattle.desk.specs.auxiliary.NewDeposit.{FailsLate};
 ghost use Rattle.desk.specs.Findings.{HoldsUnasked, Finds};
 ghost use Rattle.desk.specs.Outcome.{faults_after};
 ghost use Rattle.desk.specs.Calls.{outcome_of, finding_of, why_of, count_for, IsOfLooks, IsSomebodys};
@@ -92,6 +92,8 @@ fn ask<'p, 'a, B: Book + Drop>(
     ensures last { B.honest store.new → (b : History) → Stands B.Standing b store.old
         → IsSound (with_waiting waits.now b)
         → IfOk result (λ planned. planned.last ≡ greatest_serial (with_waiting waits.now b)) }
+    ensures rises { IsSound (with_waiting waits.now [])
+        → IfOk result (λ planned. greatest_serial (with_waiting waits.now []) ≤ planned.last) }
     ensures somebody { IfErr result (IsSomebodys (account_asked requested.entry.account)) }
     ensures refusals { IfErr result IsOfLooks }
 {
@@ -145,6 +147,8 @@ pub(crate) fn judge<'p, 'a, B: Book + Drop>(
     ensures last { B.honest store.new → (b : History) → Stands B.Standing b store.old
         → IsSound (with_waiting waits.now b)
         → IfOk result (λ planned. planned.last ≡ greatest_serial (with_waiting waits.now b)) }
+    ensures rises { IsSound (with_waiting waits.now [])
+        → IfOk result (λ planned. greatest_serial (with_waiting waits.now []) ≤ planned.last) }
     ensures unasked { (octets : List ℕ) → Spells octets (request_view requested.entry.request) → length octets ≤ 65536
         → (rule : Rule) → IsFirstFailing (HoldsUnasked (policy_view policy.now)
         (account_asked requested.entry.account) octets) rule

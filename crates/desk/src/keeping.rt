@@ -1,7 +1,7 @@
 //! In what a token is kept.
 ghost use Rattle.std.specs.Prelude.{◌≡◌};
 ghost use Rattle.book.specs.Entries.{entry_view};
-ghost use Rattle.desk.specs.Kept.{keeping_view};
+ghost use Rattle.desk.specs.auxiliary.Kept.{keeping_view};
 
 use crate::new_deposit::Submission;
 use book::Entry;

@@ -10,12 +10,12 @@ ghost use Rattle.desk.specs.Calls.{settings_view, why_of};
 ghost use Rattle.desk.specs.Command.{Deposit};
 ghost use Rattle.desk.specs.Effects.{for_deposit, in_deposit};
 ghost use Rattle.desk.specs.Fault.{IsOfDeposit};
-ghost use Rattle.desk.specs.Kept.{kept_as};
-ghost use Rattle.desk.specs.NewDeposit.{known_in, FailsLate, IsUnused};
+ghost use Rattle.desk.specs.auxiliary.Kept.{kept_as};
+ghost use Rattle.desk.specs.auxiliary.NewDeposit.{known_in, FailsLate, IsUnused};
 ghost use Rattle.desk.specs.Outcome.{Outcome};
 ghost use Rattle.desk.specs.Shown.{deposited_as};
 ghost use Rattle.desk.specs.Texts.{gives_certificate};
-ghost use Rattle.desk.specs.Wholes.{answer_by};
+ghost use Rattle.desk.specs.auxiliary.Wholes.{answer_by};
 
 use crate::fault::Fault;
 use crate::findings::Requested;

@@ -1,6 +1,6 @@
 //! What stands in the way of a call on deposits and rights.
 ghost use Rattle.std.specs.Prelude.{◌≡◌};
-ghost use Rattle.desk.specs.Obstacles.{fault_with};
+ghost use Rattle.desk.specs.auxiliary.Obstacles.{fault_with};
 
 use crate::fault::Fault;
 use crate::refusal::fault_of;
@@ -9,16 +9,8 @@ use book::StoreFault;
 /// What stands in the way: what the account may not, or the call that was refused.
 #[derive(Clone, Copy)]
 pub(crate) enum Obstacle {
-    /// No deposit with that number is visible to the account.
-    NotHere,
-    /// The deposit belongs to another account.
-    NotOwner,
-    /// The policy file has no account of that name.
-    UnknownReader,
-    /// The policy file has no group of that name.
-    UnknownGroup,
-    /// The reader is the owner.
-    SelfGrant,
+    /// What the account may not.
+    Denied(Fault),
     /// Whether the account sees the deposit.
     Searching(StoreFault),
     /// What is shown.
@@ -34,11 +26,7 @@ impl From<Obstacle> for Fault {
 
     fn from(obstacle: Obstacle) -> Fault {
         match obstacle {
-            Obstacle::NotHere => Fault::NotHere,
-            Obstacle::NotOwner => Fault::NotOwner,
-            Obstacle::UnknownReader => Fault::UnknownReader,
-            Obstacle::UnknownGroup => Fault::UnknownGroup,
-            Obstacle::SelfGrant => Fault::SelfGrant,
+            Obstacle::Denied(fault) => fault,
             Obstacle::Searching(fault) | Obstacle::Looking(fault) | Obstacle::Adding(fault) => {
                 fault_of(fault)
             }

@@ -1,6 +1,6 @@
 //! Stamps of a batch that wait for their signatures.
 ghost use Rattle.std.specs.Prelude.{◌≡◌, ◌≤◌, [], map, length, IfOk, IfErr, vec_len, vec_capacity};
-ghost use Rattle.desk.specs.Halves.{IsEmptyBatch};
+ghost use Rattle.desk.specs.auxiliary.Halves.{IsEmptyBatch};
 
 use crate::completion::WrittenBatch;
 use crate::fault::Fault;
@@ -10,8 +10,8 @@ use crate::waiting_stamp::Waiting;
 use std::alloc::Global;
 use tsp::Rule;
 
-/// A batch up to its signatures: what waits is reserved. It has to be spent, by `finish_each`, keeps the settings of its
-/// `begin_each`, and has room for all that is written then.
+/// A batch up to its signatures: what waits is reserved. It has to be spent, by `finish_each`, keeps the settings of
+/// its `begin_each`, and has room for all that is written then.
 pub(crate) struct PendingBatch<'p, 'a> {
     pub(crate) settings: Settings<'p>,
     /// For each stamp the rule by which it is rejected, or none, where it waits.

@@ -6,10 +6,10 @@ ghost use Rattle.tsp.specs.Request.{Spells};
 ghost use Rattle.tsp.specs.Tst.{IsTsaName};
 ghost use Rattle.tsp.specs.View.{request_view};
 ghost use Rattle.desk.specs.Calls.{plan_of, settings_view, why_of};
-ghost use Rattle.desk.specs.Beginnings.{WaitsFor, IsUnwritten, IsReserved};
-ghost use Rattle.desk.specs.NewDeposit.{FailsLate};
+ghost use Rattle.desk.specs.auxiliary.Beginnings.{WaitsFor, IsUnwritten, IsReserved};
+ghost use Rattle.desk.specs.auxiliary.NewDeposit.{FailsLate};
 ghost use Rattle.desk.specs.Succession.{tsa_of};
-ghost use Rattle.desk.specs.Verdicts.{HasItsText, verdict_of};
+ghost use Rattle.desk.specs.auxiliary.Verdicts.{HasItsText, verdict_of};
 
 use crate::commit::add;
 use crate::findings::Planned;

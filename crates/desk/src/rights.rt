@@ -9,10 +9,12 @@ ghost use Rattle.desk.specs.CallContract.{StepsBy, no_signer};
 ghost use Rattle.desk.specs.Calls.{settings_view};
 ghost use Rattle.desk.specs.Effects.{has_account, has_group, objection};
 ghost use Rattle.desk.specs.Fault as refused;
-ghost use Rattle.desk.specs.Obstacles.{fault_with, outcome_with, told_with, IsOfRight, IsOpposed, MayName, MayNot};
+ghost use Rattle.desk.specs.auxiliary.Obstacles.{fault_with, outcome_with, told_with, IsOfRight, IsOpposed};
+ghost use Rattle.desk.specs.auxiliary.Obstacles.{MayName, MayNot};
 ghost use Rattle.desk.specs.Outcome.{faults_after};
 ghost use Rattle.desk.specs.Shown.{done_as};
 
+use crate::fault::Fault;
 use crate::obstacle::Obstacle;
 use crate::settings::Settings;
 use crate::sight::see;
@@ -64,15 +66,15 @@ fn may_read(policy: &Policy, owner: &str, reader: Reader<'_>) -> Result<(), Obst
     match reader {
         Reader::Account(name) => {
             if !is_known(policy, name) {
-                return Err(Obstacle::UnknownReader);
+                return Err(Obstacle::Denied(Fault::UnknownReader));
             }
             if name == owner {
-                return Err(Obstacle::SelfGrant);
+                return Err(Obstacle::Denied(Fault::SelfGrant));
             }
         }
         Reader::Group(name) => {
             if !is_group(policy, name) {
-                return Err(Obstacle::UnknownGroup);
+                return Err(Obstacle::Denied(Fault::UnknownGroup));
             }
         }
     }
@@ -98,7 +100,7 @@ fn may_name<B: Book + Drop>(
     see(store, policy, account, number)?;
     let owns = store.is_owner(number, account).map_err(Obstacle::Looking)?;
     if !owns {
-        return Err(Obstacle::NotOwner);
+        return Err(Obstacle::Denied(Fault::NotOwner));
     }
     may_read(policy, account, reader)
 }

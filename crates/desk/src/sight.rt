@@ -11,8 +11,8 @@ ghost use Rattle.desk.specs.CallContract.{StepsBy, no_signer};
 ghost use Rattle.desk.specs.Calls.{settings_view};
 ghost use Rattle.desk.specs.Command.{Show, Token, ListAll};
 ghost use Rattle.desk.specs.Fault as sight;
-ghost use Rattle.desk.specs.Obstacles.{fault_with, outcome_with, told_with, token_in};
-ghost use Rattle.desk.specs.Obstacles.{IsOfSight, Sees, IsUnseen};
+ghost use Rattle.desk.specs.auxiliary.Obstacles.{fault_with, outcome_with, told_with, token_in};
+ghost use Rattle.desk.specs.auxiliary.Obstacles.{IsOfSight, Sees, IsUnseen};
 ghost use Rattle.desk.specs.Outcome.{faults_after};
 ghost use Rattle.desk.specs.Shown.{shown_as, listed_as};
 ghost use Rattle.desk.specs.Viewers.{viewer_in};
@@ -45,7 +45,7 @@ pub(crate) fn see<B: Book + Drop>(
         .visible(number, account, groups.as_slice())
         .map_err(Obstacle::Searching)?;
     if !visible {
-        return Err(Obstacle::NotHere);
+        return Err(Obstacle::Denied(Fault::NotHere));
     }
     Ok(())
 }
@@ -92,7 +92,7 @@ pub(crate) fn show_to<B: Book + Drop>(
     see(store, policy, account.name.as_str(), number)?;
     let found = store.deposit(number).map_err(Obstacle::Looking)?;
     let Some(found) = found else {
-        return Err(Obstacle::NotHere);
+        return Err(Obstacle::Denied(Fault::NotHere));
     };
     Ok(found.deposit.bytes)
 }
@@ -114,7 +114,7 @@ pub(crate) fn token_to<B: Book + Drop>(
     see(store, policy, account.name.as_str(), number)?;
     let found = store.next_stamp(number, number).map_err(Obstacle::Looking)?;
     let Some(token) = token_in(found) else {
-        return Err(Obstacle::NotHere);
+        return Err(Obstacle::Denied(Fault::NotHere));
     };
     let Ok(reply) = write_granted(alloc, &token) else {
         return Err(Obstacle::OutOfMemory);

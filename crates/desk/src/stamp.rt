@@ -11,8 +11,8 @@ ghost use Rattle.desk.specs.Calls.{settings_view};
 ghost use Rattle.desk.specs.Command.{Stamp, Rejected};
 ghost use Rattle.desk.specs.Effects.{for_reply, in_seal};
 ghost use Rattle.desk.specs.Findings.{HoldsUnasked};
-ghost use Rattle.desk.specs.Kept.{kept_as};
-ghost use Rattle.desk.specs.Wholes.{answer_by};
+ghost use Rattle.desk.specs.auxiliary.Kept.{kept_as};
+ghost use Rattle.desk.specs.auxiliary.Wholes.{answer_by};
 
 use crate::batch::Asked;
 use crate::keeping::Keeping;

@@ -6,9 +6,9 @@ ghost use Rattle.tsp.specs.Granted.{granted_octets};
 ghost use Rattle.tsp.specs.declared.rule.Rule.TheVariants.{System};
 ghost use Rattle.desk.specs.CallContract.{with_signer};
 ghost use Rattle.desk.specs.Command.{Rejected};
-ghost use Rattle.desk.specs.Kept.{keeping_view, kept_as};
-ghost use Rattle.desk.specs.NewDeposit.{FailsLate};
-ghost use Rattle.desk.specs.Wholes.{IsOfFinish, Ends, CompletesBegun};
+ghost use Rattle.desk.specs.auxiliary.Kept.{keeping_view, kept_as};
+ghost use Rattle.desk.specs.auxiliary.NewDeposit.{FailsLate};
+ghost use Rattle.desk.specs.auxiliary.Wholes.{IsOfFinish, Ends, CompletesBegun};
 
 use crate::commit::add;
 use crate::keeping::{Keeping, entry_with};

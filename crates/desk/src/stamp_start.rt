@@ -5,14 +5,14 @@ ghost use Rattle.tsp.specs.Rules.{HasVersionOne};
 ghost use Rattle.tsp.specs.View.{request_view};
 ghost use Rattle.decide.specs.View.{account_asked};
 ghost use Rattle.desk.specs.Answers.{begun_as, answered, ended_as};
-ghost use Rattle.desk.specs.Beginnings.{IsOfBeginning};
+ghost use Rattle.desk.specs.auxiliary.Beginnings.{IsOfBeginning};
 ghost use Rattle.desk.specs.Calls.{settings_view, why_of};
 ghost use Rattle.desk.specs.Command.{Begun as SpecBegun};
 ghost use Rattle.desk.specs.Effects.{for_parts, name_of};
-ghost use Rattle.desk.specs.NewDeposit.{FailsLate};
+ghost use Rattle.desk.specs.auxiliary.NewDeposit.{FailsLate};
 ghost use Rattle.desk.specs.Together.{question_view, question_with};
-ghost use Rattle.desk.specs.Verdicts.{JudgesAs};
-ghost use Rattle.desk.specs.Wholes.{answer_by};
+ghost use Rattle.desk.specs.auxiliary.Verdicts.{JudgesAs};
+ghost use Rattle.desk.specs.auxiliary.Wholes.{answer_by};
 
 use crate::batch::Asked;
 use crate::fault::Fault;

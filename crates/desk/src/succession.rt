@@ -10,7 +10,7 @@ ghost use Rattle.desk.specs.Answers.{answered};
 ghost use Rattle.desk.specs.CallContract.{StepsBy, IsStep, StandsInForce, no_signer};
 ghost use Rattle.desk.specs.Calls.{in_force_of, settings_view, succeeded_as};
 ghost use Rattle.desk.specs.Command.{Setting, Succeed};
-ghost use Rattle.desk.specs.Obstacles.{fault_with, outcome_with, told_with};
+ghost use Rattle.desk.specs.auxiliary.Obstacles.{fault_with, outcome_with, told_with};
 ghost use Rattle.desk.specs.Shown.{done_as};
 ghost use Rattle.desk.specs.Succession.{installed_by, is_latest, HasSubject};
 

@@ -3,7 +3,7 @@ ghost use Rattle.std.specs.Prelude.{◌≡◌, ◌≤◌, Ok, length};
 ghost use Rattle.tsp.specs.Granted.{granted_octets};
 ghost use Rattle.desk.specs.Answers.{reply_as};
 ghost use Rattle.desk.specs.Command.{Stamped};
-ghost use Rattle.desk.specs.Completions.{IsWritten};
+ghost use Rattle.desk.specs.auxiliary.Completions.{IsWritten};
 ghost use Rattle.desk.specs.WaitingStamps.{pending_by};
 
 use crate::reply::Reply;

@@ -3,7 +3,7 @@ use Rattle.book.specs.History.{Held, holds}
 use Rattle.book.specs.Values.{hold_view}
 use Rattle.book.specs.declared.fault.StoreFault.TheVariants as store
 use Rattle.desk.specs.Command.{Hold}
-use Rattle.desk.proofs.Added.{entered_or_refused, storage_or, not_back}
+use Rattle.desk.proofs.calls.Added.{entered_or_refused, storage_or, not_back}
 use Rattle.desk.proofs.additions.add_hold.Goals as goal
 
 pub returns-clause-step : goal.returns-clause-step

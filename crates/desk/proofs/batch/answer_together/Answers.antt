@@ -2,15 +2,15 @@ use Rattle.std.proofs.Common.{◌≡◌, ◌∙◌, List, ℕ, map, ap, subst}
 use Rattle.cms.specs.Signer.{signed_by, SignsEach}
 use Rattle.desk.specs.Answers.{reply_as}
 use Rattle.desk.specs.Calls.{settings_view}
-use Rattle.desk.specs.Completions.{texts_of}
-use Rattle.desk.specs.Halves.{AreFinished}
+use Rattle.desk.specs.auxiliary.Completions.{texts_of}
+use Rattle.desk.specs.auxiliary.Halves.{AreFinished}
 use Rattle.desk.specs.Sent.{SendsReserved}
 use Rattle.desk.specs.Together.{questions_view, IsAnsweredTogether}
 use Rattle.desk.specs.WaitingStamps.{pendings_in}
-use Rattle.desk.proofs.Batches.{ShowLaws}
-use Rattle.desk.proofs.CompletionLemmas.{counts_each}
-use Rattle.desk.proofs.Halves.{begun_texts, halves}
-use Rattle.desk.proofs.Sound.{TextLaws}
+use Rattle.desk.proofs.stamps.Batches.{ShowLaws}
+use Rattle.desk.proofs.stamps.Completions.{counts_each}
+use Rattle.desk.proofs.stamps.Halves.{begun_texts, halves}
+use Rattle.desk.proofs.journeys.Sound.{TextLaws}
 use Rattle.desk.proofs.batch.answer_together.Goals as goal
 
 pub returns : goal.returns

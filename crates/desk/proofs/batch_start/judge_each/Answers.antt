@@ -2,8 +2,8 @@ use Rattle.std.proofs.Common.{◌+◌, ◌≤◌, ◌∙◌, [], length, take, s
 use Rattle.std.proofs.lemmas.List.{take_all}
 use Rattle.desk.specs.Calls.{settings_view}
 use Rattle.desk.specs.Together.{question_view, questions_view}
-use Rattle.desk.specs.Verdicts.{verdict_of, JudgesEach, JudgesOne}
-use Rattle.desk.proofs.BatchJudgement.{asked_more, judges_none, judges_next}
+use Rattle.desk.specs.auxiliary.Verdicts.{verdict_of, JudgesEach, JudgesOne}
+use Rattle.desk.proofs.stamps.BatchJudgement.{asked_more, judges_none, judges_next}
 use Rattle.desk.proofs.batch_start.judge_each.Goals as goal
 
 pub loop-question-init : goal.loop-question-init

@@ -2,7 +2,7 @@ use Rattle.std.proofs.Common.{map, sym, ◌∙◌}
 use Rattle.std.proofs.lemmas.Result.{err_from_is_err_and}
 use Rattle.book.specs.History.{Reserved}
 use Rattle.desk.specs.WaitingStamps.{waiting_view}
-use Rattle.desk.proofs.Committed.{some_of_both, unmet}
+use Rattle.desk.proofs.stamps.Committed.{some_of_both, unmet}
 use Rattle.desk.proofs.batch_start.reserve_each.Goals as goal
 
 pub returns-in_err-entries-clause-commits : goal.returns-in_err-entries-clause-commits

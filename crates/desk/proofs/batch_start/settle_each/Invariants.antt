@@ -3,7 +3,7 @@ use Rattle.std.specs.Prelude.{vec_capacity}
 use Rattle.desk.specs.Calls.{settings_view}
 use Rattle.desk.specs.Outcome.{Call, Fine}
 use Rattle.desk.specs.Together.{questions_view}
-use Rattle.desk.specs.Verdicts.{JudgesEach}
+use Rattle.desk.specs.auxiliary.Verdicts.{JudgesEach}
 use Rattle.desk.proofs.batch_start.settle_each.Given as goal
 
 abbrev pub invariant-loop-question : goal.invariant-loop-question

@@ -1,5 +1,5 @@
 use Rattle.std.proofs.Common.{SFits, w64, to_z, of_z, to_z-of_z, rules}
-use Rattle.desk.proofs.Clocks.{looked_now}
+use Rattle.desk.proofs.calls.Clocks.{looked_now}
 use Rattle.desk.proofs.clock_facts.look.Goals as goal
 
 pub returns-clause-value : goal.returns-clause-value

@@ -1,4 +1,4 @@
-use Rattle.desk.proofs.ClosedBooks.{never_good, nothing_given}
+use Rattle.desk.proofs.journeys.ClosedBooks.{never_good, nothing_given}
 use Rattle.desk.proofs.closed.closed_books_give_nothing_out.Goals as goal
 
 pub returns-clause-clock : goal.returns-clause-clock

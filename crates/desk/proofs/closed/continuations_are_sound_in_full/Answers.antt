@@ -1,4 +1,4 @@
-use Rattle.desk.proofs.WholeOn.{whole_on, rising_on}
+use Rattle.desk.proofs.journeys.WholeOn.{whole_on, rising_on}
 use Rattle.desk.proofs.closed.continuations_are_sound_in_full.Goals as goal
 
 pub returns-clause-whole : goal.returns-clause-whole

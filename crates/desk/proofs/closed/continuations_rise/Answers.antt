@@ -1,4 +1,4 @@
-use Rattle.desk.proofs.RisingOn.{rises_on}
+use Rattle.desk.proofs.journeys.RisingOn.{rises_on}
 use Rattle.desk.proofs.closed.continuations_rise.Goals as goal
 
 pub returns : goal.returns

@@ -1,4 +1,4 @@
-use Rattle.desk.proofs.WholeOn.{restated_is_stated}
+use Rattle.desk.proofs.journeys.WholeOn.{restated_is_stated}
 use Rattle.desk.proofs.closed.void_stamps_are_stated.Goals as goal
 
 pub returns : goal.returns

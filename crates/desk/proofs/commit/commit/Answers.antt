@@ -1,6 +1,6 @@
 use Rattle.std.proofs.Common.{sym, ◌∙◌}
 use Rattle.book.specs.Entries.{entries_view, entry_view}
-use Rattle.desk.proofs.Committed.{some_of, committed}
+use Rattle.desk.proofs.stamps.Committed.{some_of, committed}
 use Rattle.desk.proofs.commit.commit.Goals as goal
 
 pub returns : goal.returns

@@ -3,7 +3,7 @@ use Rattle.std.specs.Prelude.{vec_capacity}
 use Rattle.cms.specs.Signer.{signed_by}
 use Rattle.desk.specs.Answers.{reply_as}
 use Rattle.desk.specs.Calls.{settings_view}
-use Rattle.desk.specs.Completions.{seal_view, AreWritten}
+use Rattle.desk.specs.auxiliary.Completions.{seal_view, AreWritten}
 use Rattle.desk.specs.WaitingStamps.{pendings_in}
 use Rattle.desk.proofs.completion.write_each.Given as goal
 

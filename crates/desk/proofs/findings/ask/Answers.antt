@@ -6,9 +6,9 @@ use Rattle.decide.specs.Clock.{IsGood, IsGoodAt}
 use Rattle.decide.specs.View.{account_asked}
 use Rattle.desk.specs.Facts.{clock_of, facts_of}
 use Rattle.desk.specs.WaitingStamps.{with_waiting}
-use Rattle.desk.proofs.Judgement.{same_cause, facts_are, first_lifted, all_lifted, unasked_lifted, answered_for}
-use Rattle.desk.proofs.Judgement.{looks_then}
-use Rattle.desk.proofs.Late.{late_with}
+use Rattle.desk.proofs.stamps.Judgement.{same_cause, facts_are, first_lifted, all_lifted, unasked_lifted, answered_for}
+use Rattle.desk.proofs.stamps.Judgement.{looks_then}
+use Rattle.desk.proofs.documents.Late.{late_with}
 use Rattle.desk.proofs.findings.ask.Goals as goal
 
 pub returns-in-Err-clause-finds : goal.returns-in-Err-clause-finds

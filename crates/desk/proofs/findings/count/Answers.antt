@@ -4,7 +4,7 @@ use Rattle.decide.specs.View.{account_asked}
 use Rattle.book.specs.History.{count_of_day, day_of}
 use Rattle.desk.specs.Calls.{count_for}
 use Rattle.desk.specs.WaitingStamps.{with_waiting}
-use Rattle.desk.proofs.Among.{count_among}
+use Rattle.desk.proofs.stamps.Among.{count_among}
 use Rattle.desk.proofs.findings.count.Goals as goal
 
 pub returns-in_ok-stored-in-Some-clause-value : goal.returns-in_ok-stored-in-Some-clause-value

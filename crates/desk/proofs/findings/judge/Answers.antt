@@ -6,9 +6,9 @@ use Rattle.desk.specs.Facts.{facts_of}
 use Rattle.desk.specs.Findings.{HoldsUnasked}
 use Rattle.desk.specs.WaitingStamps.{with_waiting}
 use Rattle.desk.specs.declared.refusal.StampRefusal.TheVariants as refusal
-use Rattle.desk.proofs.Headline.{one_first}
-use Rattle.desk.proofs.Judgement.{unasked_first, unasked_lifted, first_lifted, answered_for}
-use Rattle.desk.proofs.Late.{late_of}
+use Rattle.desk.proofs.journeys.Headline.{one_first}
+use Rattle.desk.proofs.stamps.Judgement.{unasked_first, unasked_lifted, first_lifted, answered_for}
+use Rattle.desk.proofs.documents.Late.{late_of}
 use Rattle.desk.proofs.findings.judge.Goals as goal
 
 pub returns-in-Some-clause-finds : goal.returns-in-Some-clause-finds

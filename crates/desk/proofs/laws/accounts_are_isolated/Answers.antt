@@ -1,5 +1,5 @@
-use Rattle.desk.proofs.Sound.{TextLaws}
-use Rattle.desk.proofs.Whole.{runs_alike}
+use Rattle.desk.proofs.journeys.Sound.{TextLaws}
+use Rattle.desk.proofs.journeys.Whole.{runs_alike}
 use Rattle.desk.proofs.laws.accounts_are_isolated.Goals as goal
 
 pub returns : goal.returns

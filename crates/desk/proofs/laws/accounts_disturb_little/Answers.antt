@@ -1,4 +1,4 @@
-use Rattle.desk.proofs.Others.{step_stays}
+use Rattle.desk.proofs.journeys.Others.{step_stays}
 use Rattle.desk.proofs.laws.accounts_disturb_little.Goals as goal
 
 pub returns : goal.returns

@@ -1,4 +1,4 @@
-use Rattle.desk.proofs.Batches.{batch_runs, batch_stays_sound, batch_texts}
+use Rattle.desk.proofs.stamps.Batches.{batch_runs, batch_stays_sound, batch_texts}
 use Rattle.desk.proofs.laws.batches_are_runs.Goals as goal
 
 pub returns-clause-run : goal.returns-clause-run

@@ -1,4 +1,4 @@
-use Rattle.desk.proofs.Batches.{batch_stops}
+use Rattle.desk.proofs.stamps.Batches.{batch_stops}
 use Rattle.desk.proofs.laws.batches_stop_as_runs.Goals as goal
 
 pub returns : goal.returns

@@ -1,5 +1,5 @@
-use Rattle.desk.proofs.OneEffect.{one_effect}
-use Rattle.desk.proofs.Sound.{TextLaws}
+use Rattle.desk.proofs.journeys.OneEffect.{one_effect}
+use Rattle.desk.proofs.journeys.Sound.{TextLaws}
 use Rattle.desk.proofs.laws.commands_have_one_effect.Goals as goal
 
 pub returns : goal.returns

@@ -1,4 +1,4 @@
-use Rattle.desk.proofs.Sighted.{shows_exactly}
+use Rattle.desk.proofs.documents.Sighted.{shows_exactly}
 use Rattle.desk.proofs.laws.deposits_are_shown_exactly.Goals as goal
 
 pub returns : goal.returns

@@ -1,8 +1,8 @@
-use Rattle.desk.proofs.Acknowledged.{readers_along}
-use Rattle.desk.proofs.FallingSerials.{given_in_order}
-use Rattle.desk.proofs.Sound.{TextLaws}
-use Rattle.desk.proofs.KeptPromises.{journeys_have_properties, open_along}
-use Rattle.desk.proofs.Whole.{continued_properties}
+use Rattle.desk.proofs.journeys.Acknowledged.{readers_along}
+use Rattle.desk.proofs.journeys.FallingSerials.{given_in_order}
+use Rattle.desk.proofs.journeys.Sound.{TextLaws}
+use Rattle.desk.proofs.journeys.KeptPromises.{journeys_have_properties, open_along}
+use Rattle.desk.proofs.journeys.Whole.{continued_properties}
 use Rattle.desk.proofs.laws.journeys_keep_their_promises.Goals as goal
 
 pub returns : goal.returns

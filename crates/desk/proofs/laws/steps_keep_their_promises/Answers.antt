@@ -1,5 +1,5 @@
-use Rattle.desk.proofs.Promised.{keeps_promises}
-use Rattle.desk.proofs.Sound.{TextLaws}
+use Rattle.desk.proofs.journeys.Promised.{keeps_promises}
+use Rattle.desk.proofs.journeys.Sound.{TextLaws}
 use Rattle.desk.proofs.laws.steps_keep_their_promises.Goals as goal
 
 pub returns : goal.returns

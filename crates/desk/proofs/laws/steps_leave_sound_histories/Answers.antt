@@ -1,5 +1,5 @@
-use Rattle.desk.proofs.Sound.{TextLaws}
-use Rattle.desk.proofs.Whole.{step_sound, cut_sound}
+use Rattle.desk.proofs.journeys.Sound.{TextLaws}
+use Rattle.desk.proofs.journeys.Whole.{step_sound, cut_sound}
 use Rattle.desk.proofs.laws.steps_leave_sound_histories.Goals as goal
 
 pub returns : goal.returns

@@ -1,4 +1,4 @@
-use Rattle.desk.proofs.Given.{asked_is_reserved, begun_is_reserved}
+use Rattle.desk.proofs.journeys.Given.{asked_is_reserved, begun_is_reserved}
 use Rattle.desk.proofs.laws.texts_are_reserved.Goals as goal
 
 pub returns : goal.returns

@@ -6,10 +6,10 @@ use Rattle.desk.specs.Calls.{settings_view}
 use Rattle.desk.specs.CallContract.{StepsWhere, with_signer}
 use Rattle.desk.specs.Command.{Deposit}
 use Rattle.desk.specs.Effects.{for_deposit}
-use Rattle.desk.specs.NewDeposit.{octets_of, question_of, IsUnused}
-use Rattle.desk.proofs.Beginnings.{begins}
-use Rattle.desk.proofs.NewDeposits.{request_is, new_deposit, lent_octets}
-use Rattle.desk.proofs.Stamps.{is_whole}
+use Rattle.desk.specs.auxiliary.NewDeposit.{octets_of, question_of, IsUnused}
+use Rattle.desk.proofs.stamps.Beginnings.{begins}
+use Rattle.desk.proofs.documents.NewDeposits.{request_is, new_deposit, lent_octets}
+use Rattle.desk.proofs.stamps.Stamps.{is_whole}
 use Rattle.desk.proofs.new_deposit.deposit_new.Goals as goal
 
 pub write_request-written-requires : goal.write_request-written-requires

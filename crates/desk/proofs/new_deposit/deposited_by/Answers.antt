@@ -1,6 +1,6 @@
 use Rattle.std.proofs.lemmas.Result.{err_from_is_err_and}
 use Rattle.desk.specs.Calls.{why_of}
-use Rattle.desk.proofs.NewDeposits.{late_refusal, refused_deposit}
+use Rattle.desk.proofs.documents.NewDeposits.{late_refusal, refused_deposit}
 use Rattle.desk.proofs.new_deposit.deposited_by.Goals as goal
 
 pub returns-in_err-kept : goal.returns-in_err-kept

@@ -7,7 +7,7 @@ use Rattle.tsp.specs.View.{request_view}
 use Rattle.cms.specs.SignedData.{attribute_text}
 use Rattle.desk.specs.Calls.{settings_view, plan_of}
 use Rattle.desk.specs.Texts.{tst_of, reservation_of}
-use Rattle.desk.proofs.BatchJudgement.{next_is}
+use Rattle.desk.proofs.stamps.BatchJudgement.{next_is}
 use Rattle.desk.proofs.reservation.prepare.Goals as goal
 
 pub write_tst-requires-clause-lawful : goal.write_tst-requires-clause-lawful
@@ -37,6 +37,7 @@ returns-clause-waits c octets given =
     let tst : c.in-Ok.tst.items ≡ tst_of s plan serial = c.in-Ok.ensures.text ∙ ap (λ t. encoding (tst_info t)) made in
     record {
       left = omega (arith, c.if-last-ge-GREATEST_NUMBER.false);
+      moment = c.micros_of-micros.ensures.within;
       reserves = next_is s c.args.account.now plan c.in-Some.query.now serial c.micros_of-micros.result
           c.algorithm-algorithm.result.now c.hash-digest.result.now c.in-Ok.tst.items c.micros_of-micros.ensures.same
           c.algorithm-algorithm.ensures c.hash-digest.ensures tst

@@ -1,5 +1,5 @@
 use Rattle.policy.specs.View.{account_view, policy_view}
-use Rattle.desk.proofs.Shows.{known_by}
+use Rattle.desk.proofs.documents.Shows.{known_by}
 use Rattle.desk.proofs.rights.is_known.Goals as goal
 
 pub returns : goal.returns

@@ -1,11 +1,11 @@
-use Rattle.std.proofs.Common.{true, false, sym, ◌∙◌}
+use Rattle.std.proofs.Common.{true, false, inl, inr, refl, sym, ◌∙◌}
 use Rattle.std.proofs.lemmas.Result.{err_from_is_err_and}
 use Rattle.policy.specs.View.{policy_view}
 use Rattle.book.specs.Entries.{reader_view}
 use Rattle.desk.specs.Viewers.{viewer_in}
 use Rattle.desk.specs.declared.obstacle.Obstacle.TheVariants as obstacle
-use Rattle.desk.proofs.Grants.{unseen_named, named_by, owned, uncounted_by}
-use Rattle.desk.proofs.Wrapped.{call_ok, call_err}
+use Rattle.desk.proofs.documents.Grants.{unseen_named, named_by, owned, uncounted_by}
+use Rattle.desk.proofs.calls.Wrapped.{call_ok, call_err}
 use Rattle.desk.proofs.rights.may_name.Goals as goal
 
 pub returns-in_err-see-clause-may : goal.returns-in_err-see-clause-may
@@ -25,14 +25,14 @@ pub returns-then-not-owns-clause-may : goal.returns-then-not-owns-clause-may
 returns-then-not-owns-clause-may g c honest b st =
     let told = call_ok obstacle.Looking c.is_owner.result c.in_ok-owns.owns c.in_ok-owns.ensures.cases in
     let seen = c.in_ok-see.ensures.sees (c.is_owner.ensures.looks.honest honest) b st in
-    let own = rw told at (c.is_owner.ensures.value honest b (c.in_ok-see.ensures.looks.stands b st)) in (
+    let own = rw told at (c.is_owner.ensures.value honest b (c.in_ok-see.ensures.looks.stands b st)) in
+    inr (inl (
+      refl,
       seen.0,
-      (
-        seen.1,
-        owned (viewer_in (policy_view c.args.policy.now) c.args.account.now) c.args.account.now c.args.number b seen.0
-            false seen.1 (sym c.if-not-owns.true ∙ own),
-      ),
-    )
+      seen.1,
+      owned (viewer_in (policy_view c.args.policy.now) c.args.account.now) c.args.account.now c.args.number b seen.0
+          false seen.1 (sym c.if-not-owns.true ∙ own),
+    ))
 
 pub returns-clause-may : goal.returns-clause-may
 returns-clause-may g c honest b st =

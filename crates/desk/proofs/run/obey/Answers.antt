@@ -8,7 +8,7 @@ use Rattle.desk.specs.Asked.{command_view, answer_view}
 use Rattle.desk.specs.Calls.{settings_view, in_force_of}
 use Rattle.desk.specs.Command.{Stamp, Deposit, Show, Token, ListAll, Grant, Revoke, Calibrate, Hold}
 use Rattle.desk.specs.Shown.{deposited_as, shown_as, listed_as, done_as, numbered_as}
-use Rattle.desk.proofs.RunsOn.{obeyed_as, obeyed_by, obeyed_succession, succeeded_after}
+use Rattle.desk.proofs.journeys.RunsOn.{obeyed_as, obeyed_by, obeyed_succession, succeeded_after}
 use Rattle.desk.proofs.run.obey.Goals as goal
 
 pub returns-in-Stamp-clause-step : goal.returns-in-Stamp-clause-step

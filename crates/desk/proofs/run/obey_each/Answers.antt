@@ -3,7 +3,7 @@ use Rattle.std.proofs.lemmas.List.{take_all}
 use Rattle.desk.specs.Asked.{command_view, answer_view, commands_view, answers_view}
 use Rattle.desk.specs.Calls.{settings_view}
 use Rattle.desk.specs.RunContract.{AreSteps}
-use Rattle.desk.proofs.RunsOn.{steps_more}
+use Rattle.desk.proofs.journeys.RunsOn.{steps_more}
 use Rattle.desk.proofs.run.obey_each.Goals as goal
 
 pub loop-command-init : goal.loop-command-init

@@ -6,14 +6,14 @@ use Rattle.book.specs.Values.{deposit_view}
 use Rattle.desk.specs.Calls.{settings_view}
 use Rattle.desk.specs.Viewers.{viewer_in}
 use Rattle.desk.specs.Command.{Show, Shown, Refused}
-use Rattle.desk.specs.Obstacles.{Sees, IsUnseen}
+use Rattle.desk.specs.auxiliary.Obstacles.{Sees, IsUnseen}
 use Rattle.desk.specs.Outcome.{all_fine}
 use Rattle.desk.specs.declared.fault.Fault.TheVariants as fault
 use Rattle.desk.specs.declared.obstacle.Obstacle.TheVariants as obstacle
-use Rattle.desk.proofs.Denied.{looks_as, denied, deposit_found, sight_is_right, unlooked, unshown, shown}
-use Rattle.desk.proofs.Judgement.{looks_then}
-use Rattle.desk.proofs.Shows.{unseen}
-use Rattle.desk.proofs.Wrapped.{call_ok, call_err}
+use Rattle.desk.proofs.documents.Denied.{looks_as, denied, deposit_found, sight_is_right, unlooked, unshown, shown}
+use Rattle.desk.proofs.stamps.Judgement.{looks_then}
+use Rattle.desk.proofs.documents.Shows.{unseen}
+use Rattle.desk.proofs.calls.Wrapped.{call_ok, call_err}
 use Rattle.desk.proofs.sight.show_to.Goals as goal
 
 pub returns-in_err-see-clause-step : goal.returns-in_err-see-clause-step
@@ -58,7 +58,7 @@ returns-in_default-clause-step g c =
     looks_as g.B.Standing s (Show a n) c.args.store.now c.deposit.new.self (all_fine (Ok [])) (Refused fault.NotHere)
     (refl, (tt, tt)) ((rw told at c.deposit.ensures.faults) ∙ c.in_ok-see.ensures.counted) tt tt
     (looks_then g.B.Standing _ _ _ c.in_ok-see.ensures.looks c.deposit.ensures.looks)
-    (λ honest b st. unshown viewer n b obstacle.NotHere tt (unseen viewer n b st.sound (rw (told, c.in_default.is)
+    (λ honest b st. unshown viewer n b (obstacle.Denied fault.NotHere) refl (unseen viewer n b st.sound (rw (told, c.in_default.is)
     at (c.deposit.ensures.value honest b (c.in_ok-see.ensures.looks.stands b st)))))
 
 pub returns-clause-step : goal.returns-clause-step

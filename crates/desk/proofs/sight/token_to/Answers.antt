@@ -8,15 +8,15 @@ use Rattle.tsp.specs.Granted.{granted_octets}
 use Rattle.desk.specs.Calls.{settings_view}
 use Rattle.desk.specs.Viewers.{viewer_in}
 use Rattle.desk.specs.Command.{Token, Shown, Refused}
-use Rattle.desk.specs.Obstacles.{Sees, IsUnseen}
+use Rattle.desk.specs.auxiliary.Obstacles.{Sees, IsUnseen}
 use Rattle.desk.specs.Outcome.{OutOfMemory, all_fine}
 use Rattle.desk.specs.declared.fault.Fault.TheVariants as fault
 use Rattle.desk.specs.declared.obstacle.Obstacle.TheVariants as obstacle
-use Rattle.desk.proofs.Denied.{looks_as, denied, sight_is_right, token_found, unlooked, untold, untokened}
-use Rattle.desk.proofs.Denied.{told, ungrown}
-use Rattle.desk.proofs.Fits.{none_failed}
-use Rattle.desk.proofs.Judgement.{looks_then}
-use Rattle.desk.proofs.Wrapped.{call_ok, call_err}
+use Rattle.desk.proofs.documents.Denied.{looks_as, denied, sight_is_right, token_found, unlooked, untold, untokened}
+use Rattle.desk.proofs.documents.Denied.{told, ungrown}
+use Rattle.desk.proofs.calls.Fits.{none_failed}
+use Rattle.desk.proofs.stamps.Judgement.{looks_then}
+use Rattle.desk.proofs.calls.Wrapped.{call_ok, call_err}
 use Rattle.desk.proofs.sight.token_to.Goals as goal
 
 pub returns-in_err-see-clause-step : goal.returns-in_err-see-clause-step

@@ -9,9 +9,9 @@ use Rattle.desk.specs.Findings.{HoldsUnasked}
 use Rattle.desk.specs.Together.{question_view}
 use Rattle.desk.specs.WaitingStamps.{with_waiting}
 use Rattle.desk.specs.declared.refusal.StampRefusal.TheVariants as refusal
-use Rattle.desk.proofs.BatchJudgement.{judged_err}
-use Rattle.desk.proofs.Headline.{one_first}
-use Rattle.desk.proofs.Judgement.{unread, unspelled}
+use Rattle.desk.proofs.stamps.BatchJudgement.{judged_err}
+use Rattle.desk.proofs.journeys.Headline.{one_first}
+use Rattle.desk.proofs.stamps.Judgement.{unread, unspelled}
 use Rattle.desk.proofs.stamp_start.judge_one.Goals as goal
 
 pub returns-in_default : goal.returns-in_default

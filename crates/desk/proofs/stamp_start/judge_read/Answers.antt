@@ -2,12 +2,12 @@ use Rattle.std.proofs.Common.{sym, subst, inl}
 use Rattle.std.specs.Prelude.{IfSome, IfOk}
 use Rattle.std.proofs.lemmas.Result.{err_from_is_err_and}
 use Rattle.tsp.specs.Request.{Spells}
-use Rattle.desk.specs.Beginnings.{WaitsFor}
+use Rattle.desk.specs.auxiliary.Beginnings.{WaitsFor}
 use Rattle.desk.specs.Calls.{settings_view, plan_of, refused, why_of}
 use Rattle.desk.specs.Effects.{name_of}
 use Rattle.desk.specs.Together.{question_with}
 use Rattle.desk.specs.WaitingStamps.{with_waiting}
-use Rattle.desk.proofs.BatchJudgement.{judged_err, judged_planned, found_settled}
+use Rattle.desk.proofs.stamps.BatchJudgement.{judged_err, judged_planned, found_settled}
 use Rattle.desk.proofs.stamp_start.judge_read.Goals as goal
 
 pub prepare-requires : goal.prepare-requires
@@ -40,5 +40,5 @@ returns-clause-judges g c octets spelled short given =
     judged_planned g.B.Standing s a c.args.waits.now plan last c.prepare.result c.args.store.now c.judge.new.store
     (subst (λ name. IfOk c.prepare.result (WaitsFor s name plan octets last)) c.name_of-account.ensures
     (c.prepare.ensures.waits octets given)) c.prepare.ensures.unwritten found.looks found.counted
-    (λ honest b st sound. found.finds honest b st sound octets spelled short) found.last
+    (λ honest b st sound. found.finds honest b st sound octets spelled short) found.last found.rises
     (λ rule first. (found.unasked octets spelled short rule first).0)

@@ -2,8 +2,8 @@ use Rattle.std.proofs.Common.{sym, ◌∙◌}
 use Rattle.std.proofs.lemmas.Result.{err_from_is_err_and}
 use Rattle.desk.specs.Calls.{in_force_of}
 use Rattle.desk.specs.declared.obstacle.Obstacle.TheVariants as obstacle
-use Rattle.desk.proofs.Successions.{succeeded_already, unlooked, addition_told}
-use Rattle.desk.proofs.Wrapped.{call_ok, call_err, wrapped_is}
+use Rattle.desk.proofs.calls.Successions.{succeeded_already, unlooked, addition_told}
+use Rattle.desk.proofs.calls.Wrapped.{call_ok, call_err, wrapped_is}
 use Rattle.desk.proofs.succession.install.Goals as goal
 
 pub returns-in_err-latest-clause-step : goal.returns-in_err-latest-clause-step

@@ -1,6 +1,6 @@
 use Rattle.std.proofs.Common.{◌∙◌, sym, ap}
 use Rattle.desk.specs.Succession.{installed_by, is_latest}
-use Rattle.desk.proofs.Successions.{none_installed, last_installed}
+use Rattle.desk.proofs.calls.Successions.{none_installed, last_installed}
 use Rattle.desk.proofs.succession.is_last.Goals as goal
 
 pub returns-in-None : goal.returns-in-None

@@ -3,7 +3,7 @@ use Rattle.desk.specs.Command.{Abandon, Done}
 use Rattle.desk.specs.Effects.{only}
 use Rattle.desk.specs.Outcome.{all_fine}
 use Rattle.desk.specs.CallContract.{no_signer}
-use Rattle.desk.proofs.Opened.{promised}
+use Rattle.desk.proofs.calls.Opened.{promised}
 use Rattle.desk.proofs.desk.Desk.abandon.Goals as goal
 
 pub returns-clause-step : goal.returns-clause-step

@@ -3,8 +3,8 @@ use Rattle.decide.specs.View.{account_asked}
 use Rattle.desk.specs.Answers.{reply_as}
 use Rattle.desk.specs.Calls.{settings_view}
 use Rattle.desk.specs.Command.{Stamp}
-use Rattle.desk.proofs.Opened.{steps_opened}
-use Rattle.desk.proofs.StampReplies.{granted_reply, rejected_reply}
+use Rattle.desk.proofs.calls.Opened.{steps_opened}
+use Rattle.desk.proofs.stamps.StampReplies.{granted_reply, rejected_reply}
 use Rattle.desk.proofs.desk.Desk.answer.Goals as goal
 
 pub returns-clause-step : goal.returns-clause-step

@@ -7,9 +7,9 @@ use Rattle.desk.specs.Command.{Begin, Begun}
 use Rattle.desk.specs.Effects.{for_parts}
 use Rattle.desk.specs.Findings.{HoldsUnasked}
 use Rattle.desk.specs.CallContract.{no_signer}
-use Rattle.desk.specs.Wholes.{answer_by}
-use Rattle.desk.proofs.Beginnings.{begins, begins_steps, begins_refused, begins_unasked}
-use Rattle.desk.proofs.Opened.{steps_opened}
+use Rattle.desk.specs.auxiliary.Wholes.{answer_by}
+use Rattle.desk.proofs.stamps.Beginnings.{begins, begins_steps, begins_refused, begins_unasked}
+use Rattle.desk.proofs.calls.Opened.{steps_opened}
 use Rattle.desk.proofs.desk.Desk.begin.Goals as goal
 
 pub reserve-requires : goal.reserve-requires

@@ -3,7 +3,7 @@ use Rattle.book.specs.Entries.{reader_view}
 use Rattle.desk.specs.Asked.{right_command}
 use Rattle.desk.specs.Calls.{settings_view}
 use Rattle.desk.specs.Shown.{done_as}
-use Rattle.desk.proofs.Opened.{right_stays, steps_told}
+use Rattle.desk.proofs.calls.Opened.{right_stays, steps_told}
 use Rattle.desk.proofs.desk.Desk.change_right.Goals as goal
 
 pub returns-clause-step : goal.returns-clause-step

@@ -4,7 +4,7 @@ use Rattle.desk.specs.Answers.{answered}
 use Rattle.desk.specs.Calls.{settings_view}
 use Rattle.desk.specs.Command.{Deposit}
 use Rattle.desk.specs.Shown.{deposited_as}
-use Rattle.desk.proofs.Opened.{steps_opened}
+use Rattle.desk.proofs.calls.Opened.{steps_opened}
 use Rattle.desk.proofs.desk.Desk.deposit.Goals as goal
 
 pub returns-clause-step : goal.returns-clause-step

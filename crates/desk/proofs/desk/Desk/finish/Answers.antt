@@ -5,9 +5,9 @@ use Rattle.desk.specs.Command.{Answer, Finish, Refused}
 use Rattle.desk.specs.Effects.{fault_by, in_seal}
 use Rattle.desk.specs.Outcome.{all_fine}
 use Rattle.desk.specs.CallContract.{no_signer}
-use Rattle.desk.specs.Wholes.{Ends}
-use Rattle.desk.proofs.Endings.{finishes, finish_refused}
-use Rattle.desk.proofs.Opened.{steps_opened, refused_as}
+use Rattle.desk.specs.auxiliary.Wholes.{Ends}
+use Rattle.desk.proofs.stamps.Endings.{finishes, finish_refused}
+use Rattle.desk.proofs.calls.Opened.{steps_opened, refused_as}
 use Rattle.desk.proofs.desk.Desk.finish.Goals as goal
 
 pub returns-clause-step : goal.returns-clause-step

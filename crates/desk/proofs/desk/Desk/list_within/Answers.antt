@@ -3,7 +3,7 @@ use Rattle.policy.specs.View.{account_view}
 use Rattle.desk.specs.Calls.{settings_view}
 use Rattle.desk.specs.Command.{ListAll}
 use Rattle.desk.specs.Shown.{listed_as}
-use Rattle.desk.proofs.Opened.{steps_told}
+use Rattle.desk.proofs.calls.Opened.{steps_told}
 use Rattle.desk.proofs.desk.Desk.list_within.Goals as goal
 
 pub returns-clause-step : goal.returns-clause-step

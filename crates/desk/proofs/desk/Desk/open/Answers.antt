@@ -1,5 +1,5 @@
 use Rattle.desk.specs.Calls.{settings_view}
-use Rattle.desk.proofs.Opened.{opens_by, opening_refused}
+use Rattle.desk.proofs.calls.Opened.{opens_by, opening_refused}
 use Rattle.desk.proofs.desk.Desk.open.Goals as goal
 
 pub returns-in-Ok-clause-step : goal.returns-in-Ok-clause-step

@@ -1,0 +1,3 @@
+pub mod BatchRows
+pub mod FalseVariants
+pub mod Rows

@@ -1,0 +1,13 @@
+pub mod Among
+pub mod Assembly
+pub mod Answered
+pub mod BatchJudgement
+pub mod Batches
+pub mod Beginnings
+pub mod Committed
+pub mod Completions
+pub mod Endings
+pub mod Halves
+pub mod Judgement
+pub mod StampReplies
+pub mod Stamps

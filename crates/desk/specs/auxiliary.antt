@@ -1,0 +1,9 @@
+pub mod Beginnings
+pub mod Codes
+pub mod Completions
+pub mod Halves
+pub mod Kept
+pub mod NewDeposit
+pub mod Obstacles
+pub mod Verdicts
+pub mod Wholes

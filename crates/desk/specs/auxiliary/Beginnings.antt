@@ -1,0 +1,115 @@
+-- A stamp up to its reservation, whatever it is made for, by itself or together with others.
+use Rattle.std.specs.Prelude.{◌≡◌, ◌⊎◌, ℕ, ◌+◌, ◌<◌, ◌≤◌, List, [], ◌∷◌, Option, Some, None, Result, Ok, Err}
+use Rattle.gentime.specs.GenTime.{last_moment}
+use Rattle.book.specs.Entries.{Appends}
+use Rattle.book.specs.Fault.{IsOfStorage}
+use Rattle.book.specs.History.{Reserved, History, ReservationValue, greatest_serial}
+use Rattle.book.specs.Sound.{greatest_number}
+use Rattle.book.specs.Stands.{Stands}
+use Rattle.book.specs.declared.fault.StoreFault.{StoreFault}
+use Rattle.book.specs.declared.standing.Standing.{Ghosts}
+use Rattle.desk.specs.Batches.{Question}
+use Rattle.desk.specs.Calls.{why_of, refused, IsOfLooks}
+use Rattle.desk.specs.Command.{Setting, PendingValue, Begin}
+use Rattle.desk.specs.Effects.{name_of, next_reservation, no_number}
+use Rattle.desk.specs.Findings.{StampPlan, Finding, Fails, Unanswered, Allowed, Finds}
+use Rattle.desk.specs.Fit.{IsFit}
+use Rattle.desk.specs.Outcome.{Outcome, Cause, Refusal, ByRule, ByCause, all_fine, faults_after}
+use Rattle.desk.specs.Texts.{reservation_of, pending_of}
+use Rattle.desk.specs.WaitingStamps.{waiting_view, pending_in, HasText}
+use Rattle.desk.specs.declared.refusal.StampRefusal.{StampRefusal}
+use Rattle.desk.specs.declared.refusal.StampRefusal.TheVariants as refusal
+use Rattle.desk.specs.declared.waiting_stamp.Waiting.{Waiting}
+
+-- the call that had no answer, by what was found and why there is no serial number
+abbrev pub unanswered_by : Finding → Option Cause → Option Cause
+unanswered_by (Fails rule) why = None
+unanswered_by (Unanswered cause) why = Some cause
+unanswered_by (Allowed plan) why = why
+
+pub record IsUnreserved (s : Setting) (a : Question) (o : Outcome) (b : History) (cause : Cause) : Type 0 where
+  pub found : Finding
+  pub finds : Finds s.file a.account a.reading a.octets o b found
+  pub why : unanswered_by found (no_number o b) ≡ Some cause
+
+-- nothing is reserved, where this was met
+abbrev pub IsSettled : Setting → Question → Refusal → Outcome → History → Type 0
+IsSettled s a (ByRule rule) o b = Finds s.file a.account a.reading a.octets o b (Fails rule)
+IsSettled s a (ByCause cause) o b = IsUnreserved s a o b cause
+
+-- No rule refuses it: what is reserved under the next serial number, and what waits for its signature then.
+pub record IsAwaited (s : Setting) (a : Question) (b : History) (r : ReservationValue) (p : PendingValue) : Type 0 where
+  pub plan : StampPlan
+  pub found : Finds s.file a.account a.reading a.octets (all_fine (Ok [])) b (Allowed plan)
+  pub left : greatest_serial b < greatest_number
+  pub reserves : r ≡ next_reservation s (name_of a.account) plan a.octets b
+  pub pending : p ≡ pending_of s plan r
+
+-- What is written for a plan, behind this serial number, or why it isn't.
+pub record WaitsFor (s : Setting) (account : List ℕ) (plan : StampPlan) (octets : List ℕ) (last : ℕ) (w : Waiting)
+    : Type 0 where
+  pub left : last < greatest_number
+  pub moment : plan.gen_time ≤ last_moment
+  pub reserves : waiting_view w ≡ reservation_of s account plan octets (last + 1)
+  pub pending : pending_in s w ≡ pending_of s plan (waiting_view w)
+  pub text : HasText s w
+
+abbrev pub IsUnwritten : ℕ → StampRefusal → Type 0
+IsUnwritten last r =
+    ((r ≡ refusal.Exhausted) × (greatest_number ≤ last)) ⊎ ((r ≡ refusal.OutOfMemory) × (last < greatest_number))
+
+-- nothing is committed yet
+abbrev pub IsOfJudging : StampRefusal → Type 0
+IsOfJudging r = IsOfLooks r ⊎ ((r ≡ refusal.Exhausted) ⊎ (r ≡ refusal.OutOfMemory))
+
+-- or the reservation was refused
+abbrev pub IsOfBeginning : StampRefusal → Type 0
+IsOfBeginning r = IsOfJudging r ⊎ ((f : StoreFault) × (r ≡ refusal.Adding f) × IsOfStorage f)
+
+-- what waits is reserved, or the commit is refused
+abbrev pub IsReserved : {B : Type 0} → Ghosts B → Setting → Result Waiting StampRefusal
+    → Result PendingValue StampRefusal → B → B → Type 0
+IsReserved g s (Err r) result old new = (result ≡ Err r) × (new ≡ old)
+IsReserved g s (Ok w) (Ok p) old new =
+    (p ≡ pending_in s w) × Appends {A = Unit {0}} g (Reserved (waiting_view w) ∷ []) old new (Ok tt)
+IsReserved g s (Ok w) (Err r) old new = (f : StoreFault) × (r ≡ refusal.Adding f) × IsOfStorage f
+    × Appends {A = Unit {0}} g (Reserved (waiting_view w) ∷ []) old new (Err f)
+
+-- the commit of its reservation was refused, and is there after all
+pub record IsReservedAfterAll {B : Type 0} (g : Ghosts B) (s : Setting) (a : Question) (o : Outcome) (b : History)
+    (left : g.Left) : Type 0 where
+  pub fault : StoreFault
+  pub storage : IsOfStorage fault
+  pub met : o ≡ refused (refusal.Adding fault)
+  pub reservation : ReservationValue
+  pub pending : PendingValue
+  pub awaits : IsAwaited s a b reservation pending
+  pub holds : g.holds left (Reserved reservation ∷ b)
+
+-- nothing is reserved
+pub record Settles {B : Type 0} (g : Ghosts B) (s : Setting) (a : Question) (why : Refusal) (o : Outcome) (old new : B)
+    : Type 0 where
+  pub fits : IsFit (Begin a.account a.reading a.octets) o
+  pub counted : g.fault_count new ≡ faults_after o (g.fault_count old)
+  pub settled : g.honest new → (b : History) → Stands g b old → IsSettled s a why o b
+  pub stands : g.honest new → (b : History) → Stands g b old → Stands g b new
+  pub left : g.honest new → (b : History) → Stands g b old → (left : g.Left) → g.leaves new left
+      → g.leaves old left ⊎ IsReservedAfterAll g s a o b left
+
+-- from the history b it is reserved, and this waits
+pub record HasReserved {B : Type 0} (g : Ghosts B) (s : Setting) (a : Question) (p : PendingValue) (b : History)
+    (new : B) : Type 0 where
+  pub reservation : ReservationValue
+  pub awaits : IsAwaited s a b reservation p
+  pub stands : Stands g (Reserved reservation ∷ b) new
+
+pub record Reserves {B : Type 0} (g : Ghosts B) (s : Setting) (a : Question) (p : PendingValue) (old new : B) : Type 0
+  where
+    pub counted : g.fault_count new ≡ g.fault_count old
+    pub opened : g.honest new → g.is_open new
+    pub reserves : g.honest new → (b : History) → Stands g b old → HasReserved g s a p b new
+
+-- a stamp up to its reservation
+abbrev pub Begins : {B : Type 0} → Ghosts B → Setting → Question → Result PendingValue StampRefusal → B → B → Type 0
+Begins g s a (Ok p) old new = Reserves g s a p old new
+Begins g s a (Err r) old new = IsOfBeginning r × Settles g s a (why_of r) (refused r) old new
