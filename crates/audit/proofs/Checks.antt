@@ -1,9 +1,8 @@
 -- Whether a row's octets say what it says, by what they are read as.
 use Rattle.std.proofs.Common.{◌≡◌, ℕ, ◌≤◌, Bool, true, false, List, [], ◌∷◌, ◌++◌, length, map, refl, sym, ap, ◌∙◌}
 use Rattle.std.proofs.Common.{Option, Some, None, option_map, find, nat_lt, subst}
-use Rattle.std.specs.Prelude.{reverse}
+use Rattle.std.specs.Prelude.{reverse, ◌↔◌, IsTrue}
 use Rattle.std.proofs.lemmas.List.{map-append, reverse-append}
-use Rattle.std.specs.Prelude.{◌↔◌, IsTrue}
 use Rattle.der.specs.DataValue.{value_in}
 use Rattle.der.specs.Node.{Node, encoding, IsLawful}
 use Rattle.book.specs.Identities.{identity_before}

@@ -1,7 +1,6 @@
 -- An extract, written line after line.
 use Rattle.std.proofs.Common.{◌≡◌, ◌≢◌, ℕ, ◌+◌, ◌<◌, ◌≤◌, List, [], ◌∷◌, ◌++◌, length, take, Option, None, Some, Vec}
-use Rattle.std.proofs.Common.{Result, Ok, Err}
-use Rattle.std.proofs.Common.{refl, sym, ap, ◌∙◌, subst, inl, inr, arith, append_assoc, append-nil}
+use Rattle.std.proofs.Common.{Result, Ok, Err, refl, sym, ap, ◌∙◌, subst, arith, append_assoc, append-nil}
 use Rattle.std.proofs.KnownBytes.{Appends-nil, Appends-trans}
 use Rattle.std.proofs.Math.Seq.{take-append_seam, take-append-add, take-length}
 use Rattle.std.proofs.lemmas.List.{length-append, length-take-le, take-append-le}
@@ -14,8 +13,8 @@ use Rattle.book.specs.Rows.{StampRow}
 use Rattle.book.specs.History.{History, stamps_between}
 use Rattle.book.specs.Stands.{Stands, OnlyLooks}
 use Rattle.audit.specs.Extract.{columns, extract_text, fields, header_text, lines_text, stamp_text, stamps_text}
-use Rattle.audit.specs.Failures.{HasFailed, IsAsked, StopsFor}
-use Rattle.audit.specs.Steps.{IsNextLine}
+use Rattle.audit.specs.Failures.{IsAsked}
+use Rattle.audit.specs.auxiliary.Steps.{IsNextLine}
 use Rattle.audit.specs.Writes.{Writes, WritesLine}
 use Rattle.audit.specs.declared.fault.ExtractFault.{ExtractFault}
 use Rattle.audit.specs.declared.fault.ExtractFault.TheVariants.{Write}
@@ -282,40 +281,6 @@ cut_later g old now next out out' out'' from to octets octets' left last left' l
         length-append line (rest b),
       );
     })
-
--- the header isn't written whole: the extract has it
-pub first_stops : (limit octets : ℕ) (line : List ℕ) (from to : ℕ) (b : History) (f f' : Option ℕ)
-    → octets ≡ 0 → line ≡ header_text → StopsFor limit (octets + length line) f f'
-    → StopsFor limit (length (extract_text from to b)) f f'
-first_stops limit octets line from to b f f' none is (inl more) = inl (omega (
-  arith,
-  more,
-  none,
-  ap length is,
-  length-append header_text (stamps_text (stamps_between from to b)),
-))
-first_stops limit octets line from to b f f' none is (inr failed) = inr failed
-
--- nor is a further line
-pub later_stops : {B : Type 0} (g : Ghosts B) (old now next : B) (out out' : Option (List ℕ))
-    (from to octets left last left' last' limit : ℕ) (line : List ℕ) (f f' f'' : Option ℕ)
-    → HasWritten g old now out out' from to octets left last → OnlyLooks g now next
-    → (g.honest next → (b : History) → Stands g b now
-    → stamps_text (stamps_between left last b) ≡ line ++ stamps_text (stamps_between left' last' b))
-    → f' ≡ f → StopsFor limit (octets + length line) f' f''
-    → g.honest next → (b : History) → Stands g b old → StopsFor limit (length (extract_text from to b)) f f''
-later_stops g old now next out out' from to octets left last left' last' limit line f f' f'' before looks value same
-    (inl more) h b s = inl (omega (
-      arith,
-      more,
-      before.count,
-      ap length (before.splits (looks.honest h) b s),
-      length-append before.written (stamps_text (stamps_between left last b)),
-      ap length (value h b (before.looks.stands b s)),
-      length-append line (stamps_text (stamps_between left' last' b)),
-    ))
-later_stops g old now next out out' from to octets left last left' last' limit line f f' f'' before looks value same
-    (inr failed) h b s = inr (subst (λ x. HasFailed x f'') same failed)
 
 -- so many octets were counted
 pub record HasCounted {B : Type 0} (g : Ghosts B) (old now : B) (from to octets left last : ℕ) : Type 0 where

@@ -5,6 +5,5 @@ pub mod Failures
 pub mod Fault
 pub mod Inquiries
 pub mod Intact
-pub mod Steps
-pub mod Texts
 pub mod Writes
+pub mod auxiliary

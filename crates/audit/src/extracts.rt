@@ -1,6 +1,7 @@
 //! The stamps of a range of serial numbers, for an auditor.
 ghost use Rattle.std.specs.Io.KnownBytes.{Keeps};
-ghost use Rattle.std.specs.Prelude.{◌≡◌, ◌≢◌, ◌<◌, ◌≤◌, ◌^◌, ◌-◌, ℕ, length, Err, IfOk, IfErr, IfSome, MatchResult, OnOk};
+ghost use Rattle.std.specs.Prelude.{◌≡◌, ◌≢◌, ◌<◌, ◌≤◌, ◌^◌, ◌-◌, ℕ, length, Err, IfOk, IfErr, IfSome, MatchResult};
+ghost use Rattle.std.specs.Prelude.{OnOk};
 ghost use Rattle.policy.specs.View.{account_view, policy_view};
 ghost use Rattle.book.specs.History.{History, stamps_between};
 ghost use Rattle.book.specs.Stands.{Stands, OnlyLooks};
@@ -9,7 +10,7 @@ ghost use Rattle.audit.specs.Inquiries.{Allows, ComesFor};
 ghost use Rattle.audit.specs.Extract.{extract_text};
 ghost use Rattle.audit.specs.Failures.{IsAsked, StopsFor};
 ghost use Rattle.audit.specs.Fault.{count_after};
-ghost use Rattle.audit.specs.Steps.{IsLine, IsNextLine};
+ghost use Rattle.audit.specs.auxiliary.Steps.{IsLine, IsNextLine};
 ghost use Rattle.audit.specs.Writes.{Writes};
 
 use crate::auditor::allow;

@@ -35,10 +35,7 @@ length_in content = get_or (20 ∷ 32 ∷ 48 ∷ 64 ∷ 28 ∷ []) (get_or conte
 length_in-content : (a : HashAlgorithm) → length_in (oid_content (algorithm a).identifier) ≡ (algorithm a).hash_length
 unfolding subidentifier_octets
 length_in-content Sha1 = refl
-length_in-content Sha224 = refl
-length_in-content Sha256 = refl
-length_in-content Sha384 = refl
-length_in-content Sha512 = refl
+length_in-content _ = refl
 
 -- the contents of an identifier tell the length
 pub same_length : (a b : HashAlgorithm) → oid_content (algorithm a).identifier ≡ oid_content (algorithm b).identifier

@@ -4,7 +4,7 @@ use Rattle.der.specs.Node.{encoding}
 use Rattle.tsp.specs.Request.{RequestValue, Spells}
 use Rattle.tsp.specs.Rejection.{number_of, rejection}
 use Rattle.tsp.specs.Rules.{IsSpelled, HasVersionOne, HasKnownAlgorithm, HasAlgorithmLength, IsFirstFailing}
-use Rattle.tsp.specs.RulesOfOctets.{to_octets, first_of_octets}
+use Rattle.tsp.specs.auxiliary.RulesOfOctets.{to_octets, first_of_octets}
 use Rattle.tsp.specs.Tst.{tst_info}
 use Rattle.tsp.specs.declared.rule.Rule.{Rule}
 use Rattle.tsp.specs.declared.rule.Rule.TheVariants.{Spelling, Version, Account, Algorithm, HashLength}

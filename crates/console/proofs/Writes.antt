@@ -49,15 +49,6 @@ pub begins_whatever : {T E : Type 0} (old new : Option (List ℕ)) (text : List 
 begins_whatever {T} {E} old new text (Ok done) whole begun = (length text, rw (take-length text) whole)
 begins_whatever {T} {E} old new text (Err e) whole begun = begun
 
--- what is written in two steps is whole, unless one of them fails
-pub whole_after : {T E : Type 0} (old mid new : Option (List ℕ)) (a b c : Option ℕ) (first second : List ℕ)
-    (written : Result T E) → Appends old mid first → b ≡ a → OnOk written (Appends mid new second)
-    → OnErr written (HasFailed b c) → IsWhole old new a c (first ++ second)
-whole_after {T} {E} old mid new a b c first second (Ok done) one kept two failed =
-    inl (Appends-trans old mid new first second one two)
-whole_after {T} {E} old mid new a b c first second (Err e) one kept two failed =
-    inr (subst (λ failures. HasFailed failures c) kept failed)
-
 -- whatever a write answers, the text is whole, or it failed
 pub whole_whatever : {T E : Type 0} (old new : Option (List ℕ)) (before after : Option ℕ) (text : List ℕ)
     (written : Result T E) → OnOk written (Appends old new text) → OnErr written (HasFailed before after)

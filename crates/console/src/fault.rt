@@ -1,6 +1,6 @@
 ghost use Rattle.std.specs.Prelude.{◌≡◌, ◌≤◌, ◌++◌, ◌∷◌, []};
 ghost use Rattle.std.specs.Fmt.{decimal};
-ghost use Rattle.console.specs.declared.fault.Fault.TheVariants.{Der, Tsp, Cms, Policy, Store, Audit, Input};
+ghost use Rattle.console.specs.declared.fault.Fault.TheVariants.{Tsp, Cms, Policy, Store, Input};
 ghost use Rattle.console.specs.declared.fault.InputFault.TheVariants.{Memory};
 ghost use Rattle.console.specs.Fault.{fault_of};
 ghost use Rattle.console.specs.Files.{IsFaultOf};
@@ -87,14 +87,6 @@ impl Fault {
             Fault::Audit(fault) => fault.number(),
             Fault::Input(fault) => fault.number(),
         }
-    }
-}
-
-impl From<DerFault> for Fault {
-    ghost from_gives = { λ fault e. e ≡ Der fault };
-
-    fn from(fault: DerFault) -> Fault {
-        Fault::Der(fault)
     }
 }
 

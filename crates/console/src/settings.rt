@@ -1,5 +1,4 @@
 ghost use Rattle.std.specs.Prelude.{◌≡◌, ◌⊎◌, ◌↔◌, ◌^◌, ◌<◌, ◌≤◌, None, Err, IfOk, IfErr};
-ghost use Rattle.der.specs.ObjectIdentifier.{IsOid, oid_text};
 ghost use Rattle.der.specs.OidText.{oid_of_text};
 ghost use Rattle.der.specs.declared.fault.DerFault.TheVariants.{BadValue};
 ghost use Rattle.gentime.specs.GenTime.{last_moment, round_down};
@@ -43,7 +42,11 @@ impl Settings {
         ensures faults { IfErr result (λ fault.
             (fault ≡ Fault.Der BadValue) ⊎ (fault ≡ Fault.Input InputFault.Memory)) }
     {
-        let policy = parse_policy(alloc, words.policy)?;
+        let policy = match Oid::parse_text(alloc, words.policy) {
+            Ok(policy) => policy,
+            Err(DerFault::Memory) => return Err(Fault::Input(InputFault::Memory)),
+            Err(fault) => return Err(Fault::Der(fault)),
+        };
         let moment = GenTime::from_micros(words.moment as i64).unwrap();
         Ok(Settings {
             policy,
@@ -61,22 +64,5 @@ impl Settings {
         ensures bound { result ≤ last_moment }
     {
         self.moment.rounded_down(self.digits)
-    }
-}
-
-/// The object identifier of that text. Another text is refused as `der` 8, whatever memory there is, and want of memory
-/// over an object identifier's is `input` 7.
-fn parse_policy(alloc: Global, text: &str) -> Result<Oid, Fault>
-    ensures found { IfOk result (λ oid. IsOid oid × (text.now ≡ oid_text oid)) }
-    ensures refused { (result ≡ Err (Fault.Der BadValue)) ↔ (oid_of_text text.now ≡ None) }
-    ensures faults { IfErr result (λ fault.
-        (fault ≡ Fault.Der BadValue) ⊎ (fault ≡ Fault.Input InputFault.Memory)) }
-{
-    match Oid::parse_text(alloc, text) {
-        Ok(policy) => Ok(policy),
-        Err(fault) => match fault {
-            DerFault::Memory => Err(Fault::Input(InputFault::Memory)),
-            _ => Err(Fault::Der(fault)),
-        },
     }
 }

@@ -8,7 +8,7 @@ use Rattle.std.specs.Option.{option_to_list}
 use Rattle.std.proofs.lemmas.List.Elements.{filter_map-append}
 use Rattle.policy.specs.Record.{AccountValue, PolicyValue}
 use Rattle.policy.specs.Sound.{IsSound as IsSoundFile}
-use Rattle.book.specs.History.{Entry, Reserved, Sealed, Deposited, Calibrated, Held, Granted, Revoked, Installed}
+use Rattle.book.specs.History.{Entry, Reserved, Calibrated, Held, Granted, Revoked, Installed}
 use Rattle.book.specs.History.{CalibrationValue, History, HoldValue, ReservationValue, calibrations, hold_in, holds}
 use Rattle.book.specs.History.{latest_calibration, token_of}
 use Rattle.book.specs.Identities.{latest_identity}
@@ -20,23 +20,21 @@ use Rattle.desk.specs.Command.{Grant, Revoke, Calibrate, Hold, Succeed, Shown, L
 use Rattle.desk.specs.Effects.{Effect, only, for_reply, for_deposit, name_of, no_number, no_seal, no_sight}
 use Rattle.desk.specs.Effects.{next_reservation, begin_found, begin_effect, finish_effect, show_effect}
 use Rattle.desk.specs.Effects.{token_effect, reply_or_nothing, calibrate_effect, numbered, succeed_effect, accepted}
-use Rattle.desk.specs.Findings.{StampPlan, Finding, Finds, Fails, Unanswered, Allowed, IsAllowed}
+use Rattle.desk.specs.Findings.{StampPlan, Finding, Finds, Allowed, IsAllowed}
 use Rattle.desk.specs.MachineRuns.{HasProperties, IsProper, IsEntering, Told, Journey, begins, opens, opens_older}
-use Rattle.desk.specs.MachineRuns.{shuts, rests, enters}
-use Rattle.desk.specs.MachineRuns.{breaks, goes, stops, continues}
+use Rattle.desk.specs.MachineRuns.{shuts, rests, enters, breaks, goes, stops, continues}
 use Rattle.desk.specs.MachineStep.{HasEffect}
 use Rattle.desk.specs.Outcome.{Outcome, Cause, cause_of}
 use Rattle.desk.specs.Succession.{IsNameable, installed_by, is_latest}
 use Rattle.desk.specs.Texts.{octets_for}
 use Rattle.desk.specs.Viewers.{viewer_in}
 use Rattle.desk.specs.declared.fault.Fault.TheVariants as fault
-use Rattle.desk.proofs.Branches.{if_has, unless_has, right_has, stamp_has, deposit_has}
+use Rattle.desk.proofs.journeys.Branches.{if_has, unless_has, right_has, stamp_has, deposit_has}
 use Rattle.judgement.specs.Given.{IsGivenByRules}
 use Rattle.judgement.specs.Journeys.{AreGivenByRules, IsInOrder, KeepsTo, begun_with, reading_in}
-use Rattle.judgement.specs.Readings.{evidence_in}
+use Rattle.judgement.specs.Readings.{evidence_in, is_held_by}
 use Rattle.judgement.specs.Journeys.{readings_of, row_in, rows_before}
 use Rattle.judgement.specs.Past.{before_of}
-use Rattle.judgement.specs.Readings.{is_held_by}
 use Rattle.judgement.proofs.Reserved.{Laws, given_by}
 
 -- a stamp was allowed at one of the readings, and this is what was reserved for it
@@ -75,21 +73,15 @@ module _ (file : PolicyValue) (readings : List ℤ) where
   abbrev IsFine : Entry → History → Type 0
   IsFine (Reserved r) b = IsReservedAt file readings r b
   IsFine (Calibrated c) b = AllByRecursion (λ reading. reading ≤ℤ c.reading) readings
-  IsFine (Sealed serial token) b = Unit {0}
-  IsFine (Deposited d token) b = Unit {0}
-  IsFine (Held h) b = Unit {0}
-  IsFine (Granted number reader) b = Unit {0}
-  IsFine (Revoked number reader) b = Unit {0}
-  IsFine (Installed i) b = Unit {0}
+  IsFine _ b = Unit {0}
 
   abbrev AreFine : List Entry → History → Type 0
   AreFine [] b = Unit {0}
   AreFine (entry ∷ es) b = IsFine entry (es ++ b) × AreFine es b
 
   cut_fine : (k : ℕ) (es : List Entry) (b : History) → AreFine es b → AreFine (drop k es) b
-  cut_fine zero es b fine = fine
-  cut_fine (suc k) [] b fine = fine
   cut_fine (suc k) (entry ∷ es) b fine = cut_fine k es b fine.1
+  cut_fine _ _ b fine = fine
 
   -- each reservation since the beginning is one, and no later calibration is before its reading
   abbrev pub AreReserved : History → History → Type 0
@@ -104,13 +96,7 @@ module _ (file : PolicyValue) (readings : List ℤ) where
       → AllByRecursion (λ c. reading ≤ℤ c.reading) (calibrations newer)
       → AllByRecursion (λ c. reading ≤ℤ c.reading) (calibrations (entry ∷ newer))
   later_too (Calibrated c) b newer reading among fine all = (all_of _ readings reading fine among, all)
-  later_too (Reserved r) b newer reading among fine all = all
-  later_too (Sealed serial token) b newer reading among fine all = all
-  later_too (Deposited d token) b newer reading among fine all = all
-  later_too (Held h) b newer reading among fine all = all
-  later_too (Granted number reader) b newer reading among fine all = all
-  later_too (Revoked number reader) b newer reading among fine all = all
-  later_too (Installed i) b newer reading among fine all = all
+  later_too _ b newer reading among fine all = all
 
   one_more : (beginning : History) (entry : Entry) (b : History) → IsFine entry b → AreReserved beginning b
       → AreReserved beginning (entry ∷ b)
@@ -187,17 +173,7 @@ module _ (file : PolicyValue) (readings : List ℤ) (b : History) where
       → HasEffect s c o b e → Q e
   entering_fine s (Calibrate c) o e entering order h = calibrate_fine c o e order s h
   entering_fine s (Hold hold) o e entering order h = hold_fine s hold o e h
-  entering_fine s (Stamp account reading octets) o e entering order h = absurd entering
-  entering_fine s (Begin account reading octets) o e entering order h = absurd entering
-  entering_fine s (Finish p signature) o e entering order h = absurd entering
-  entering_fine s (Abandon p) o e entering order h = absurd entering
-  entering_fine s (Deposit a reading reference bytes) o e entering order h = absurd entering
-  entering_fine s (Show a n) o e entering order h = absurd entering
-  entering_fine s (Token a n) o e entering order h = absurd entering
-  entering_fine s (ListAll a) o e entering order h = absurd entering
-  entering_fine s (Grant a n reader) o e entering order h = absurd entering
-  entering_fine s (Revoke a n reader) o e entering order h = absurd entering
-  entering_fine s (Succeed next) o e entering order h = absurd entering
+  entering_fine s _ o e entering order h = absurd entering
 
   show_fine : (refused : Option Cause) (seen : Option DepositRow) → Q (show_effect refused seen)
   show_fine refused None = tt
@@ -252,9 +228,8 @@ step_fine file readings b s by proper nameable (Begin account reading octets) o 
 
     go : (g : Finding) → f ≡ g
         → AreFine file (reading ∷ readings) (begin_found s (name_of account) octets o b g).adds b
-    go (Fails rule) same = tt
-    go (Unanswered cause) same = tt
     go (Allowed plan) same = reserved plan same (no_number o b)
+    go _ same = tt
 step_fine file readings b s by proper nameable (Deposit a reading reference bytes) o e counted h =
     let P = λ (x : Effect). AreFine file (reading ∷ readings) x.adds b in
     deposit_has P (λ f. tt) s a reading reference bytes o b (λ d is. tt)

@@ -1,5 +1,5 @@
 -- Readings and the clock: the first reading is the best.
-use Rattle.std.proofs.Common.{◌≡◌, ℕ, zero, suc, ◌<◌, ◌≤◌, ◌+◌, ◌-◌, ◌*◌, ◌/◌, ◌%◌, ◌^◌, ℤ, pos, negsuc, List, [], ◌∷◌}
+use Rattle.std.proofs.Common.{◌≡◌, ℕ, suc, ◌<◌, ◌≤◌, ◌+◌, ◌-◌, ◌*◌, ◌/◌, ◌%◌, ◌^◌, ℤ, pos, negsuc, List, [], ◌∷◌}
 use Rattle.std.proofs.Common.{drop, map, Option, Some, None, Bool, true, false, ◌&&◌, refl, sym, ap, ◌∙◌, subst, inl, inr}
 use Rattle.std.proofs.Common.{find, arith}
 use Rattle.std.specs.List.{list_any}
@@ -8,8 +8,7 @@ use Rattle.std.proofs.lemmas.Bool.{or_right, true≢false}
 use Rattle.std.proofs.lemmas.Int.{ints, by_lt_z}
 use Rattle.std.proofs.lemmas.Nat.{le-div}
 use Rattle.std.proofs.lemmas.Option.{same_Some, none-some}
-use Rattle.std.proofs.Math.Nat.{div-mul-le_self, div-eq_of_lt-le, mul-le-mul_right, one-le-pow}
-use Rattle.std.proofs.Math.Nat.{mul-div_cancel}
+use Rattle.std.proofs.Math.Nat.{div-mul-le_self, div-eq_of_lt-le, mul-le-mul_right, one-le-pow, mul-div_cancel}
 use Rattle.policy.specs.Record.{CounterValue}
 use Rattle.book.specs.History.{CalibrationValue, HoldValue, first_of}
 use Rattle.book.specs.Sound.{greatest_number}
@@ -20,8 +19,8 @@ use Rattle.decide.specs.declared.facts.Calibration.{Calibration}
 use Rattle.decide.specs.declared.facts.ClockFacts.{ClockFacts}
 use Rattle.judgement.specs.Readings.{EvidenceValue, IsReadUnder, IsOfSome, IsClockUnder, calibration_of, is_held_by}
 use Rattle.judgement.specs.Readings.{clock_at, uncalibrated}
-use Rattle.judgement.specs.Search.{IsFirstFree, IsFirstReading, IsFreeReading, IsGoodClock, IsGoodClockUnder}
-use Rattle.judgement.specs.Search.{IsGoodUnder, IsLeast}
+use Rattle.judgement.specs.auxiliary.Search.{IsFirstFree, IsFirstReading, IsFreeReading, IsGoodClock, IsGoodClockUnder}
+use Rattle.judgement.specs.auxiliary.Search.{IsGoodUnder}
 
 -- ---- rounding
 
@@ -121,9 +120,8 @@ some_map P Q f (c ∷ cs) (inr h) = inr (some_map P Q f cs h)
 
 some_of_drop : {X : Type 0} (P : CalibrationValue → Option CalibrationValue → Type 0) (view : X → CalibrationValue)
     (n : ℕ) (xs : List X) → IsOfSome P (map view (drop n xs)) → IsOfSome P (map view xs)
-some_of_drop P view zero xs h = h
-some_of_drop P view (suc n) [] h = h
 some_of_drop P view (suc n) (x ∷ xs) h = inr (some_of_drop P view n xs h)
+some_of_drop P view _ _ h = h
 
 -- ---- what a good clock says
 
@@ -150,19 +148,6 @@ uncalibrated_bad counter good = none-some good.calibration good.calibrated
 
 -- ---- the first reading that isn't held
 
--- the first free moment from the least one on
-pub first_free_from : (holds : List HoldValue) (stated : ℕ) (c : CalibrationValue) (least now : ℕ)
-    → IsLeast c stated least → is_held_by holds (pos now) ≡ false → least ≤ now
-    → ((n : ℕ) → least ≤ n → n < now → is_held_by holds (pos n) ≡ true) → IsFirstFree holds stated c now
-first_free_from holds stated c least now k free onwards first =
-    let since = k.since in
-    record {
-      since = omega (arith, ints, since, onwards);
-      stated_since = omega (arith, k.stated_since, onwards);
-      free = free;
-      first = λ n from after before. first n (k.least_is n from after) before;
-    }
-
 -- each free reading is of this moment or a later one, less than a step after the genTime
 pub free_after : (counter : CounterValue) (holds : List HoldValue) (stated : ℕ) (c : CalibrationValue)
     (next : Option CalibrationValue) (now : ℕ) → IsFirstFree holds stated c now
@@ -187,23 +172,6 @@ is_multiple counter stated c next reading k =
     whole_rest stated (step counter) (step_positive (6 - counter.fraction_digits))
     (rounded_whole k.now (step counter) stated (step_positive (6 - counter.fraction_digits)) k.rounded)
 
-pub no_reading_late : (counter : CounterValue) (holds : List HoldValue) (stated : ℕ) (c : CalibrationValue)
-    (next : Option CalibrationValue) (now : ℕ) → IsFirstFree holds stated c now → step counter ≤ now - stated
-    → (reading : ℤ) → IsFreeReading counter holds stated c next reading → ⊥
-no_reading_late counter holds stated c next now searched late reading k =
-    let after = free_after counter holds stated c next now searched reading k in
-    omega (arith, after.0, after.1, late)
-
-pub no_reading_counted : (counter : CounterValue) (holds : List HoldValue) (stated : ℕ) (c : CalibrationValue)
-    (next : Option CalibrationValue) (now : ℕ) → IsFirstFree holds stated c now
-    → (pos greatest_number +ℤ c.offset) <ℤ pos now
-    → (reading : ℤ) → IsFreeReading counter holds stated c next reading → ⊥
-no_reading_counted counter holds stated c next now searched beyond reading k =
-    let after = free_after counter holds stated c next now searched reading k in
-    let is = k.under.is_now in
-    let counted = k.under.counted in
-    omega (arith, ints, after.0, is, counted, beyond)
-
 -- the reading of that moment is the first
 pub not_later : (counter : CounterValue) (holds : List HoldValue) (stated : ℕ) (c : CalibrationValue)
     (next : Option CalibrationValue) (now : ℕ) (reading : ℤ) → IsFirstFree holds stated c now
@@ -213,19 +181,6 @@ not_later counter holds stated c next now reading searched is other k =
     let after = (free_after counter holds stated c next now searched other k).0 in
     let at = k.under.is_now in
     omega (arith, ints, is, at, after)
-
-before_next : (next : Option CalibrationValue) (reading other : ℤ) → reading ≤ℤ other
-    → IfSome next (λ c. other ≤ℤ c.reading) → IfSome next (λ c. reading ≤ℤ c.reading)
-before_next None reading other h k = k
-before_next (Some c) reading other h k = omega (arith, ints, h, k)
-
-pub no_reading_before : (counter : CounterValue) (holds : List HoldValue) (stated : ℕ) (c : CalibrationValue)
-    (next : Option CalibrationValue) (now : ℕ) (reading : ℤ) → IsFirstFree holds stated c now
-    → (reading +ℤ c.offset) ≡ pos now → (IfSome next (λ n. reading ≤ℤ n.reading) → ⊥)
-    → (other : ℤ) → IsFreeReading counter holds stated c next other → ⊥
-no_reading_before counter holds stated c next now reading searched is not_before other k =
-    not_before (before_next next reading other
-    (not_later counter holds stated c next now reading searched is other k) k.under.until)
 
 pub first_is : (counter : CounterValue) (holds : List HoldValue) (stated : ℕ) (c : CalibrationValue)
     (next : Option CalibrationValue) (now : ℕ) (reading : ℤ) → IsFirstFree holds stated c now
@@ -392,10 +347,6 @@ pub none_left : (e : EvidenceValue) (last : Option ℕ) (stated : ℕ) (all left
     → AreLeft e last stated all left → IsGoodClock e last stated all None
 none_left e last stated all left is k clock h =
     subst (IsOfSome (IsGoodUnder e last stated clock)) is (k.to_left clock h)
-
-pub start_left : (e : EvidenceValue) (last : Option ℕ) (stated : ℕ) (all : List CalibrationValue)
-    → AreLeft e last stated all all
-start_left e last stated all = record { to_left = λ clock h. h; to_all = λ clock h. h }
 
 -- where none was found under the first of them
 pub skips : (e : EvidenceValue) (last : Option ℕ) (stated : ℕ) (all left later : List CalibrationValue)

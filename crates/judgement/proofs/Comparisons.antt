@@ -13,15 +13,14 @@ use Rattle.book.specs.Rows.{InstalledRow, StampRow}
 use Rattle.decide.specs.Verdict.{PlanValue}
 use Rattle.judgement.specs.Given.{IsStampBy, Names}
 use Rattle.judgement.specs.Readings.{EvidenceValue}
-use Rattle.judgement.specs.Search.{HasColumns, IsAnswerBy}
+use Rattle.judgement.specs.auxiliary.Search.{HasColumns, IsAnswerBy}
 
 names : (wanted : Bool) (identity : Option InstalledRow) (tsa : Option Node) → is_some tsa ≡ wanted
     → IsOwnName identity tsa → Names wanted identity tsa
 names false identity None e own = refl
-names false identity (Some name) e own = cc
-names true identity None e own = cc
 names true None (Some name) e own = own
 names true (Some i) (Some name) e own = (name, refl, own)
+names _ identity _ e own = cc
 
 own_name : (wanted : Bool) (identity : Option InstalledRow) (tsa : Option Node) → Names wanted identity tsa
     → IsOwnName identity tsa

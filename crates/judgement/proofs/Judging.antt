@@ -23,7 +23,7 @@ use Rattle.judgement.specs.Given.{IsGivenByRules, IsStampBy, account_of}
 use Rattle.judgement.specs.Judged.{HoldsFor, FailsFurthest, IsJudgedAs}
 use Rattle.judgement.specs.Readings.{EvidenceValue, IsClockUnder, IsOfSome, IsPossible, IsCalibratedClock, unheld}
 use Rattle.judgement.specs.Readings.{ComesFurthest, calibration_of, is_held_by, uncalibrated}
-use Rattle.judgement.specs.Search.{IsGoodClock, IsGoodUnder}
+use Rattle.judgement.specs.auxiliary.Search.{IsGoodClock, IsGoodUnder}
 use Rattle.judgement.specs.declared.evidence.Before.{Before}
 use Rattle.judgement.specs.declared.judgement.Judgement.{Judgement}
 use Rattle.judgement.specs.declared.judgement.Judgement.TheVariants.{Given, MayHaveBeenHeld, Fails, Differs}

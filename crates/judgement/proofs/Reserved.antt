@@ -1,9 +1,8 @@
 -- What the machine reserves is given by the rules.
-use Rattle.std.proofs.Common.{◌≡◌, ℕ, zero, suc, ◌<◌, ◌≤◌, ◌+◌, ◌-◌, ◌&&◌, ◌||◌, min, ℤ, pos, ◌≤ℤ◌, Bool, true}
-use Rattle.std.proofs.Common.{false, not, ◌^◌, List, [], ◌∷◌, ◌++◌, map, reverse, count_by, length, Contains, Option}
-use Rattle.std.proofs.Common.{Some, None}
-use Rattle.std.proofs.Common.{option_map, refl, sym, ap, ap₂, ◌∙◌, subst, inl, inr, arith, if◌then◌else◌, append_assoc}
-use Rattle.std.proofs.Common.{find}
+use Rattle.std.proofs.Common.{◌≡◌, ℕ, zero, suc, ◌<◌, ◌≤◌, ◌+◌, ◌-◌, ◌&&◌, ◌||◌, min, ℤ, pos, ◌≤ℤ◌, Bool, true, false}
+use Rattle.std.proofs.Common.{not, ◌^◌, List, [], ◌∷◌, ◌++◌, map, reverse, count_by, length, Contains, Option, Some}
+use Rattle.std.proofs.Common.{None, option_map, refl, sym, ap, ap₂, ◌∙◌, subst, inl, inr, arith, if◌then◌else◌}
+use Rattle.std.proofs.Common.{append_assoc, find}
 use Rattle.std.specs.Prelude.{IfSome}
 use Rattle.std.specs.List.{AllByRecursion, list_any}
 use Rattle.std.specs.Str.{bytes_eq}
@@ -14,21 +13,19 @@ use Rattle.std.proofs.lemmas.List.Elements.{All-contains, All-from_recursion, fi
 use Rattle.std.proofs.lemmas.List.Sorted.{IsPermutation-reverse, list_any-IsPermutation}
 use Rattle.std.proofs.lemmas.List.Sums.{sum_by-append}
 use Rattle.std.specs.Cmp.Lexicographic.{nat_list_eq_equiv}
-use Rattle.der.specs.Node.{Node}
+use Rattle.der.specs.Node.{Node, IsLawful}
 use Rattle.der.specs.ObjectIdentifier.{IsOid}
 use Rattle.gentime.specs.GenTime.{day_of, last_moment}
 use Rattle.policy.specs.LookUp.{account_named}
 use Rattle.policy.specs.Record.{AccountValue}
 use Rattle.policy.specs.Sound.{IsSound as IsSoundFile, are_apart}
 use Rattle.tsp.specs.Request.{RequestValue, Spells}
-use Rattle.der.specs.Node.{IsLawful}
 use Rattle.tsp.specs.Tst.{IsTst, IsTsaName, SpellsTst, answer, tst_info}
 use Rattle.tsp.specs.declared.rule.Rule.{Rule}
 use Rattle.tsp.specs.declared.rule.Rule.TheVariants.{Spelling, Account, Policy}
 use Rattle.cms.specs.Certificate.{IsSubject, IsSubjectName}
-use Rattle.book.specs.History.{Reserved}
-use Rattle.book.specs.History.{History, ReservationValue, CalibrationValue, HoldValue, InstalledValue, first_of}
-use Rattle.book.specs.History.{calibrations, holds, reservations, latest_calibration, last_gen_time}
+use Rattle.book.specs.History.{Reserved, History, ReservationValue, CalibrationValue, HoldValue, InstalledValue}
+use Rattle.book.specs.History.{first_of, calibrations, holds, reservations, latest_calibration, last_gen_time}
 use Rattle.book.specs.History.{count_of_day, reservation_at, calibration_in}
 use Rattle.book.specs.Identities.{identities, identity_at_reservation, identity_before, installed_as, latest_identity}
 use Rattle.book.specs.Rows.{InstalledRow, StampRow}
@@ -46,16 +43,15 @@ use Rattle.desk.specs.Facts.{clock_of, count_in, facts_of, gen_time_of, gen_time
 use Rattle.desk.specs.Findings.{StampPlan, IsAllowed}
 use Rattle.desk.specs.MachineRuns.{IsProper}
 use Rattle.desk.specs.Succession.{IsNameable, installed_by, subject_of, tsa_of}
-use Rattle.desk.proofs.Clocks.{last_within}
-use Rattle.desk.proofs.Given.{just_found}
-use Rattle.desk.proofs.Views.{reservation_stays, identity_stays}
+use Rattle.desk.proofs.calls.Clocks.{last_within}
+use Rattle.desk.proofs.journeys.Given.{just_found}
+use Rattle.desk.proofs.journeys.Views.{reservation_stays, identity_stays}
 use Rattle.judgement.specs.Given.{IsGivenByRules, Names}
 use Rattle.judgement.specs.Journeys.{row_in, rows_before}
-use Rattle.judgement.specs.Readings.{evidence_in}
+use Rattle.judgement.specs.Readings.{evidence_in, IsReadUnder, IsOfSome, IsClockUnder, calibration_of, clock_at}
 use Rattle.judgement.specs.Past as past
 use Rattle.judgement.specs.Past.{before_of}
-use Rattle.judgement.specs.Readings.{IsReadUnder, IsOfSome, IsClockUnder, calibration_of}
-use Rattle.judgement.specs.Readings.{clock_at, is_held_by}
+use Rattle.judgement.specs.Readings.{is_held_by}
 
 -- what is asked of the crates below
 pub record Laws : Type 0 where

@@ -6,9 +6,8 @@ use Rattle.book.specs.History.{CalibrationValue, Calibrated, History, Reserved, 
 use Rattle.book.specs.History.{stamps_between}
 use Rattle.book.specs.Rows.{StampRow}
 use Rattle.judgement.specs.Journeys.{row_in, rows_before}
-use Rattle.judgement.specs.Readings.{evidence_in}
+use Rattle.judgement.specs.Readings.{evidence_in, IsReadUnder, is_held_by}
 use Rattle.judgement.specs.Past.{before_of}
-use Rattle.judgement.specs.Readings.{IsReadUnder, is_held_by}
 
 abbrev counter : CounterValue
 counter = record {

@@ -29,7 +29,7 @@ use Rattle.judgement.specs.Past.{before_of}
 use Rattle.judgement.specs.Readings.{ComesFurthest, EvidenceValue, unheld}
 use Rattle.judgement.specs.Texts.{judgement_text}
 use Rattle.judgement.specs.declared.judgement.Judgement.{Judgement}
-use Rattle.judgement.specs.declared.judgement.Judgement.TheVariants.{Given, MayHaveBeenHeld, Fails, Differs}
+use Rattle.judgement.specs.declared.judgement.Judgement.TheVariants.{Fails}
 
 -- a name and its value on a line
 abbrev pub named : List ℕ → List ℕ → List ℕ
@@ -87,21 +87,16 @@ rules =
     Spelling ∷ Version ∷ Account ∷ Algorithm ∷ HashLength ∷ Policy ∷ PolicyAlgorithm ∷ Extensions ∷ Certificate ∷ Clock
     ∷ Quota ∷ System ∷ []
 
--- the rules are judged up to the one that the judgement names, which fails, and else all of them; none where there is no
--- judgement
+-- the rules are judged up to the one that the judgement names, which fails, and else all of them; none where there is
+-- no judgement
 abbrev pub is_judged : Option Judgement → Rule → Bool
 is_judged None rule = false
-is_judged (Some Given) rule = true
-is_judged (Some MayHaveBeenHeld) rule = true
-is_judged (Some Differs) rule = true
 is_judged (Some (Fails first)) rule = nat_le (number_of rule) (number_of first)
+is_judged (Some _) rule = true
 
 abbrev pub is_failing : Option Judgement → Rule → Bool
-is_failing None rule = false
-is_failing (Some Given) rule = false
-is_failing (Some MayHaveBeenHeld) rule = false
-is_failing (Some Differs) rule = false
 is_failing (Some (Fails first)) rule = number_of rule == number_of first
+is_failing _ rule = false
 
 -- a date (ISO 8601) by the genTime's text, whose year has four digits; and else the number of the day since 1970-01-01
 abbrev pub dashed : List ℕ → List ℕ
@@ -124,7 +119,8 @@ clock_value counter reading (Some c) =
 abbrev pub quota_value : Option AccountValue → ℕ → ℕ → List ℕ
 quota_value None count moment = []
 quota_value (Some account) count moment =
-    codes ": " ++ (decimal count ++ (codes " of " ++ (decimal account.daily_quota ++ (codes " on " ++ date_text moment))))
+    codes ": " ++ (decimal count ++ (codes " of " ++ (decimal account.daily_quota ++ (codes " on "
+    ++ date_text moment))))
 
 -- the value that decided, where the rule has one that no other line tells
 abbrev pub rule_value : EvidenceValue → StampRow → Facts → Rule → List ℕ
@@ -207,8 +203,8 @@ explanation_text e stamp asked facts subject judged =
     ++ (signing_lines (identity_before stamp.serial e.identities) subject stamp.token
     ++ named (codes "verdict") (verdict_text judged))))
 
--- The text explains a stamp behind the rows before it: by facts by which the rules come furthest, holds left out, and as
--- it is judged.
+-- The text explains a stamp behind the rows before it: by facts by which the rules come furthest, holds left out, and
+-- as it is judged.
 pub record IsExplanation (e : EvidenceValue) (before : List StampRow) (stamp : StampRow) (text : List ℕ) : Type 0 where
   pub asked : Option RequestValue
   pub spelled : IsRequestOf stamp.request asked

@@ -4,8 +4,7 @@ use Rattle.std.specs.List.{AllByRecursion}
 use Rattle.std.specs.Option.{option_to_list}
 use Rattle.policy.specs.Record.{PolicyValue}
 use Rattle.book.specs.Continuation.{continued}
-use Rattle.book.specs.History.{Reserved, History, ReservationValue, holds, reservations, stamp_of}
-use Rattle.book.specs.History.{token_of}
+use Rattle.book.specs.History.{Reserved, History, ReservationValue, holds, reservations, stamp_of, token_of}
 use Rattle.book.specs.Rows.{StampRow}
 use Rattle.book.specs.Sound.{greatest_number}
 use Rattle.desk.specs.Command.{Setting, Command, Stamp, Begin, Deposit, Calibrate}

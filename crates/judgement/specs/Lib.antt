@@ -4,6 +4,6 @@ pub mod Journeys
 pub mod Judged
 pub mod Past
 pub mod Readings
-pub mod Search
 pub mod Texts
 pub mod View
+pub mod auxiliary

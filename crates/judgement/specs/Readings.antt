@@ -72,7 +72,8 @@ abbrev pub uncalibrated : ClockFacts
 uncalibrated = record { reading = pos 0; calibration = None; held = false; last_gen_time = None }
 
 -- facts of the clock at some reading under the calibration
-abbrev pub IsClockUnder : EvidenceValue → Option ℕ → ℕ → ClockFacts → CalibrationValue → Option CalibrationValue → Type 0
+abbrev pub IsClockUnder : EvidenceValue → Option ℕ → ℕ → ClockFacts → CalibrationValue → Option CalibrationValue
+    → Type 0
 IsClockUnder e last stated clock c next =
     (reading : ℤ) × IsReadUnder e.file.counter stated c next reading × (clock ≡ clock_at e.holds last c reading)
 

@@ -1,6 +1,6 @@
 //! How a stamp is explained.
-ghost use Rattle.std.specs.Prelude.{◌≡◌, ◌++◌, ◌≤◌, ◌<◌, ◌+◌, ◌-◌, ◌-ℤ◌, List, Option, Some, IfOk, OnOk, MatchOption, codes};
-ghost use Rattle.std.specs.Prelude.{if◌then◌else◌, option_map};
+ghost use Rattle.std.specs.Prelude.{◌≡◌, ◌++◌, ◌≤◌, ◌<◌, ◌+◌, ◌-◌, ◌-ℤ◌, List, Option, Some, IfOk, OnOk, MatchOption};
+ghost use Rattle.std.specs.Prelude.{codes, if◌then◌else◌, option_map};
 ghost use Rattle.std.specs.Fmt.{decimal, signed_decimal};
 ghost use Rattle.std.specs.List.{flat_map};
 ghost use Rattle.hex.specs.Hex.{encode_lower};
@@ -17,8 +17,8 @@ ghost use Rattle.book.specs.Rows.{StampRow};
 ghost use Rattle.book.specs.Values.{identity_view, stamp_view};
 ghost use Rattle.judgement.specs.Explanation.{IsExplanation, calibration_lines, clock_lines, clock_value, date_text};
 ghost use Rattle.judgement.specs.Explanation.{asked_lines, distance_text, imprint_lines, rule_text, stamp_lines};
-ghost use Rattle.judgement.specs.Explanation.{extension_text, extensions_of, extensions_text, found_lines, nonce_of, since_lines};
-ghost use Rattle.judgement.specs.Explanation.{quota_value, row_lines};
+ghost use Rattle.judgement.specs.Explanation.{extension_text, extensions_of, extensions_text, found_lines, nonce_of};
+ghost use Rattle.judgement.specs.Explanation.{quota_value, row_lines, since_lines};
 ghost use Rattle.judgement.specs.Explanation.{is_failing, is_judged, named, or_none, rule_line, rule_value, rules};
 ghost use Rattle.judgement.specs.Explanation.{IsRequestOf, IsSubjectOf, signing_lines, verdict_text};
 ghost use Rattle.judgement.specs.Past.{IsPast};
@@ -61,10 +61,10 @@ fn rules() -> &'static [Rule]
     &RULES
 }
 
-/// Explains a stamp behind the rows before it, by lines of a name and a value: what its row and its request say; of each
-/// rule whether it holds or fails, with the value that decided, as far as the first that fails; the calibration under
-/// which the rules come furthest, holds left out; whose certificate was in force, and which token the stamp has; and
-/// last the verdict, as it is judged. Refused where memory runs out.
+/// Explains a stamp behind the rows before it, by lines of a name and a value: what its row and its request say; of
+/// each rule whether it holds or fails, with the value that decided, as far as the first that fails; the calibration
+/// under which the rules come furthest, holds left out; whose certificate was in force, and which token the stamp has;
+/// and last the verdict, as it is judged. Refused where memory runs out.
 pub fn explain(
     alloc: Global,
     evidence: &Evidence<'_>,
@@ -404,7 +404,8 @@ fn add_share(
 
 /// How far the true moment may be from the genTime of the moment that a reading stands for.
 fn distance(counter: &Counter, reading: i64, calibration: &Calibration) -> u128
-    ensures { result ≡ deviation (counter_view counter.now) reading calibration.now + (step (counter_view counter.now) - 1) }
+    ensures { result ≡ deviation (counter_view counter.now) reading calibration.now
+        + (step (counter_view counter.now) - 1) }
 {
     let rounding = GenTime::step(counter.fraction_digits) - 1;
     deviation_of(counter, reading, calibration) + u128::from(rounding)

@@ -7,7 +7,7 @@ ghost use Rattle.book.specs.History.{first_of};
 ghost use Rattle.book.specs.Sound.{greatest_number};
 ghost use Rattle.book.specs.Values.{calibration_view, hold_view};
 ghost use Rattle.judgement.specs.Readings.{calibration_of, is_held_by};
-ghost use Rattle.judgement.specs.Search.{IsFirstFree, IsFirstReading, IsGoodClock, IsGoodClockUnder, IsLeast};
+ghost use Rattle.judgement.specs.auxiliary.Search.{IsFirstFree, IsFirstReading, IsGoodClock, IsGoodClockUnder, IsLeast};
 ghost use Rattle.judgement.specs.View.{evidence_view};
 
 use crate::evidence::{Before, Evidence};

@@ -10,7 +10,7 @@ ghost use Rattle.book.specs.Values.{identity_view, stamp_view};
 ghost use Rattle.audit.specs.Consistent.{IsConsistent};
 ghost use Rattle.decide.specs.View.{plan_view};
 ghost use Rattle.judgement.specs.Given.{IsStampBy};
-ghost use Rattle.judgement.specs.Search.{HasColumns, IsAnswerBy};
+ghost use Rattle.judgement.specs.auxiliary.Search.{HasColumns, IsAnswerBy};
 ghost use Rattle.judgement.specs.View.{evidence_view};
 
 use crate::evidence::Evidence;

@@ -7,7 +7,7 @@ use Rattle.std.proofs.Math.Seq.{take-append-add, take-length}
 use Rattle.std.proofs.lemmas.Grind.{flat_map-append}
 use Rattle.std.proofs.lemmas.List.{length-append}
 use Rattle.std.specs.Io.KnownBytes.{Appends}
-use Rattle.std.specs.Prelude.{OnOk}
+use Rattle.audit.proofs.Lines.{looks_after, looks_not}
 use Rattle.audit.specs.Consistent.{IsConsistent}
 use Rattle.audit.specs.Intact.{IsIntact}
 use Rattle.book.specs.declared.standing.Standing.{Ghosts}
@@ -30,17 +30,6 @@ use Rattle.operations.specs.declared.audits.Findings.{Findings}
 use Rattle.operations.specs.declared.audits.Inquiry.{Inquiry}
 use Rattle.operations.specs.declared.kept.Kept.{Kept}
 
-pub looks_not : {B : Type 0} (g : Ghosts B) (s : B) → OnlyLooks g s s
-looks_not g s = record { honest = λ h. h; stands = λ b x. x; leaves = λ h db r. r }
-
-pub looks_after : {B : Type 0} (g : Ghosts B) (old mid new : B) → OnlyLooks g old mid → OnlyLooks g mid new
-    → OnlyLooks g old new
-looks_after g old mid new first second = record {
-  honest = λ h. first.honest (second.honest h);
-  stands = λ b s. second.stands b (first.stands b s);
-  leaves = λ h db r. first.leaves (second.honest h) db (second.leaves h db r);
-}
-
 -- what comes next of a range is the stamp that is handed out
 pub next_is : (from to : ℕ) (b : History) (found : Option Stamp) (stamp : Stamp) → found ≡ Some stamp
     → IsNextStamp from to b found
@@ -60,12 +49,6 @@ nonempty_after (first ∷ failures) own some e = cc e
 lines_after : (failures own : List Failure)
     → failing_lines (failures ++ own) ≡ failing_lines failures ++ failing_lines own
 lines_after failures own = flat_map-append failing_line failures own
-
--- a line is added
-pub added : {E : Type 0} (r : Result (Unit {0}) E) (old new line : List ℕ) (failure : Failure)
-    → line ≡ failing_line failure → OnOk r (new ≡ old ++ line) → OnOk r (new ≡ old ++ failing_lines (failure ∷ []))
-added r old new line failure is adds =
-    subst (λ (l : List ℕ). OnOk r (new ≡ old ++ l)) (is ∙ sym (append-nil (failing_line failure))) adds
 
 -- lines of some, or a beginning of them
 some_told : (err err' : Option (List ℕ)) (failures : List Failure) → failures ≢ [] → (n : ℕ)
@@ -106,11 +89,6 @@ module _ (inquiry : Inquiry) where
       )
 
   module _ (b : History) (rows : List StampRow) where
-    -- what is known for a judgement is known
-    pub known_for : {E : Type 0} (r : Result Kept E) → IfOk r (IsKept b rows) → IfOk r (Knows inquiry b rows)
-    known_for (Ok kept) is = record { installed = is.installed; kept_is = λ e. is }
-    known_for (Err e) is = tt
-
     module _ (stamp : StampRow) where
       abbrev pub IsJudgedSo : Option Judgement → Type 0
       IsJudgedSo judged =
@@ -204,10 +182,29 @@ module _ (inquiry : Inquiry) where
       g.honest next → (b : History) → Stands g b now
       → stamps_between left inquiry.to b ≡ stamp ∷ stamps_between left' inquiry.to b
 
-  module _ {B : Type 0} (g : Ghosts B) (old now next : B) (kept kept' kept'' : Kept) (err err' : Option (List ℕ))
-      (left left' : ℕ) (agree : Bool) (stamp : StampRow) (found : Findings)
-      (before : HasExamined g old now kept kept' err err' left agree) (looks : OnlyLooks g now next)
-      (is : IsNext g now next left left' stamp) (by : IsFoundBy g now next kept' kept'' stamp found) where
+  -- the next stamp, and what is found of it
+  pub record Follows {B : Type 0} (g : Ghosts B) (now next : B) (kept kept' : Kept) (left left' : ℕ) (stamp : StampRow)
+      (found : Findings) : Type 0 where
+    pub looks : OnlyLooks g now next
+    pub is : IsNext g now next left left' stamp
+    pub by : IsFoundBy g now next kept kept' stamp found
+
+  pub follows : {B : Type 0} (g : Ghosts B) (now mid next : B) (kept kept' : Kept) (left : ℕ) (o : Option Stamp)
+      (stamp : Stamp) (found : Findings)
+      → o ≡ Some stamp → OnlyLooks g now mid → OnlyLooks g mid next
+      → (g.honest mid → (b : History) → Stands g b now → IsNextStamp left inquiry.to b o)
+      → IsFoundBy g mid next kept kept' (stamp_view stamp) found
+      → Follows g now next kept kept' left (stamp.serial + 1) (stamp_view stamp) found
+  follows g now mid next kept kept' left o stamp found some first second is by = record {
+    looks = looks_after g now mid next first second;
+    is = λ h b s. next_is left inquiry.to b o stamp some (is (second.honest h) b s);
+    by = λ h b s rows known. by h b (first.stands b s) rows known;
+  }
+
+  module _ {B : Type 0} {g : Ghosts B} {old now next : B} {kept kept' kept'' : Kept} {err err' : Option (List ℕ)}
+      {left left' : ℕ} {agree : Bool} {stamp : StampRow} {found : Findings}
+      (before : HasExamined g old now kept kept' err err' left agree)
+      (after : Follows g now next kept' kept'' left left' stamp found) where
     abbrev own : List Failure
     own = failures_of stamp.serial found
 
@@ -215,13 +212,13 @@ module _ (inquiry : Inquiry) where
     examined_next : g.honest next → (b : History) → Stands g b old → (rows : List StampRow) → Knows inquiry b rows kept
         → Examined b rows (before.failures ++ own) kept'' left'
     examined_next h b s rows known =
-        let was = before.examined (looks.honest h) b s rows known in
+        let was = before.examined (after.looks.honest h) b s rows known in
         let stands = before.looks.stands b s in
-        let here = by h b stands (rows ++ was.stamps) was.known in
+        let here = after.by h b stands (rows ++ was.stamps) was.known in
         record {
           stamps = was.stamps ++ stamp ∷ [];
           parts = split_next (stamps_between inquiry.from inquiry.to b) was.stamps (stamps_between left inquiry.to b)
-              (stamps_between left' inquiry.to b) stamp was.parts (is h b stands);
+              (stamps_between left' inquiry.to b) stamp was.parts (after.is h b stands);
           failing = failing_next b rows was.stamps before.failures stamp found was.failing here.0;
           known = subst (λ (l : List StampRow). Knows inquiry b l kept'') (append_assoc rows was.stamps (stamp ∷ []))
               here.1;
@@ -229,7 +226,7 @@ module _ (inquiry : Inquiry) where
 
     pub passed : own ≡ [] → HasExamined g old next kept kept'' err err' left' agree
     passed none = record {
-      looks = looks_after g old now next before.looks looks;
+      looks = looks_after g old now next before.looks after.looks;
       failures = before.failures;
       told = before.told;
       agreed = before.agreed;
@@ -246,7 +243,7 @@ module _ (inquiry : Inquiry) where
 
       pub failed : Appends err' err'' (failing_lines own) → HasExamined g old next kept kept'' err err'' left' false
       failed lines = record {
-        looks = looks_after g old now next before.looks looks;
+        looks = looks_after g old now next before.looks after.looks;
         failures = before.failures ++ own;
         told = subst (Appends err err'') (sym (lines_after before.failures own))
             (Appends-trans err err' err'' (failing_lines before.failures) (failing_lines own) before.told lines);
@@ -272,13 +269,13 @@ module _ (inquiry : Inquiry) where
       pub cut_off : IsCutOff err' err'' (failing_lines own) → g.honest next → (b : History) → Stands g b old
           → (rows : List StampRow) → Knows inquiry b rows kept → ExaminesBehind inquiry b rows err err'' false
       cut_off cut h b s rows known =
-          let after = examined_next h b s rows known in
+          let seen = examined_next h b s rows known in
           record {
-            examined = after.stamps;
+            examined = seen.stamps;
             left = stamps_between left' inquiry.to b;
-            parts = after.parts;
+            parts = seen.parts;
             failures = before.failures ++ own;
-            failing = after.failing;
+            failing = seen.failing;
             told = inr (cut_next cut);
             agreed = λ e. cc e;
             failed = λ e. some_after;
@@ -286,8 +283,8 @@ module _ (inquiry : Inquiry) where
 
       pub cut_told : IsCutOff err' err'' (failing_lines own) → TellsSome err err''
       cut_told cut =
-          let after = cut_next cut in
-          some_told err err'' (before.failures ++ own) some_after after.0 after.2
+          let told = cut_next cut in
+          some_told err err'' (before.failures ++ own) some_after told.0 told.2
 
   pub ended : {B : Type 0} (g : Ghosts B) (old now next : B) (kept kept' : Kept) (err err' : Option (List ℕ))
       (left : ℕ) (agree : Bool)

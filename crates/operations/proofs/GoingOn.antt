@@ -1,12 +1,12 @@
 -- How a history goes on in a new book.
-use Rattle.std.proofs.Common.{◌≡◌, ℕ, ◌<◌, ◌≤◌, ◌==◌, ◌&&◌, max, Bool, true, false, not, nat_le, List, []}
-use Rattle.std.proofs.Common.{◌∷◌, ◌++◌, map, reverse, Option, None, Some, option_map, option_to_list, refl, sym, ap, ap₂}
-use Rattle.std.proofs.Common.{◌∙◌, subst, inl, inr, arith, Result, Ok, Err, IfOk, IfErr, append_assoc, if◌then◌else◌, find, length, take, get_or, ◌+◌}
+use Rattle.std.proofs.Common.{◌≡◌, ℕ, ◌<◌, ◌≤◌, ◌==◌, max, Bool, true, false, not, List, []}
+use Rattle.std.proofs.Common.{◌∷◌, ◌++◌, map, reverse, Option, None, Some, option_map, refl, sym, ap, ap₂}
+use Rattle.std.proofs.Common.{◌∙◌, subst, inl, inr, arith, Result, Ok, Err, IfOk, IfErr, if◌then◌else◌, find, ◌+◌}
 use Rattle.std.specs.Prelude.{IsOk, OnErr, OnOk}
 use Rattle.std.specs.List.{filter, list_any}
 use Rattle.std.proofs.Math.Nat.{le-max_left, le-max_right, max-eq_left}
-use Rattle.std.proofs.lemmas.Bool.{le-leb, le-ltb, lt-leb, lt-ltb, eq-eqb}
-use Rattle.std.proofs.lemmas.List.{map-append, reverse-append, reverse-reverse, take_more}
+use Rattle.std.proofs.lemmas.Bool.{le-ltb, lt-ltb, eq-eqb}
+use Rattle.std.proofs.lemmas.List.{reverse-append, reverse-reverse}
 use Rattle.std.proofs.lemmas.List.Elements.{filter-append}
 use Rattle.std.proofs.lemmas.List.Sorted.{IsPermutation-reverse, list_any-IsPermutation}
 use Rattle.gentime.specs.GenTime.{last_moment}
@@ -15,13 +15,12 @@ use Rattle.book.specs.Continuation.{IsAbove, IsAboveIfAny, identity_since, is_cl
 use Rattle.book.specs.Continuation.{stamp_with_identity}
 use Rattle.book.specs.Entries.{Appends, FitInTurn, with_all}
 use Rattle.book.specs.Fault.{IsOfStorage}
-use Rattle.book.specs.History.{Entry, Reserved, Installed, Calibrated, Held, History, HoldValue}
-use Rattle.book.specs.History.{CalibrationValue}
+use Rattle.book.specs.History.{Entry, Reserved, Installed, Calibrated, Held, History, HoldValue, CalibrationValue}
 use Rattle.book.specs.History.{ReservationValue, first_of, greatest_of, greatest_serial, holds, last_gen_time}
-use Rattle.book.specs.History.{latest_calibration}
-use Rattle.book.specs.History.{reservation_at, reservations, stamp_of, stamps_between, token_of}
+use Rattle.book.specs.History.{latest_calibration, reservation_at, reservations, stamp_of, token_of}
 use Rattle.book.specs.Identities.{identities, identity_at_reservation, identity_before, installed_as, installed_row}
 use Rattle.book.specs.Identities.{installed_rows}
+use Rattle.book.proofs.Stamps.{stamp_found}
 use Rattle.book.specs.Ranges.{IsNextStamp}
 use Rattle.book.specs.Rows.{InstalledRow, StampRow}
 use Rattle.book.specs.Sound.{IsSound, greatest_number}
@@ -30,11 +29,9 @@ use Rattle.book.specs.Values.{hold_view, identity_view, stamp_view}
 use Rattle.book.specs.declared.fault.StoreFault.{StoreFault}
 use Rattle.book.specs.declared.rows.Stamp.{Stamp}
 use Rattle.book.specs.declared.standing.Standing.{Ghosts}
-use Rattle.book.specs.declared.values.Hold.{Hold}
 use Rattle.desk.specs.Content.{IsSoundInFull}
 use Rattle.desk.specs.Continuation.{IsRestated, IsStated, IsStatedIfAny}
-use Rattle.operations.specs.Continuation.{Carries, Closes, IsCarried}
-use Rattle.operations.specs.Continuation.{Reaches, entries_of, entries_of_hold}
+use Rattle.operations.specs.Continuation.{Carries, Closes, IsCarried, Reaches, entries_of}
 use Rattle.operations.specs.Continuation.{entries_of_holds, entries_of_identity, entries_of_last, entries_of_stamp}
 use Rattle.operations.specs.Continuation.{identity_since_among, last_stamp_of, latest_of, void_in}
 use Rattle.operations.specs.DatabaseFaults.{IsOpeningFault}
@@ -46,7 +43,7 @@ use Rattle.sqlite_wal.specs.Recovery.{Image}
 use Rattle.store.specs.Stands.{over_tables}
 use Rattle.operations.specs.declared.carried.Carried.{Carried}
 use Rattle.operations.specs.declared.fault.ContinuationFault.{ContinuationFault}
-use Rattle.operations.specs.declared.fault.ContinuationFault.TheVariants.{Unopened, Unclosed, NotAfter, Unfinished}
+use Rattle.operations.specs.declared.fault.ContinuationFault.TheVariants.{Unopened, Unfinished}
 use Rattle.operations.specs.declared.void_stamp.Floor.{Floor}
 
 -- ---- lists
@@ -81,53 +78,21 @@ falls [] sound = tt
 falls (Reserved r ∷ b) sound = (sound.0.rises, falls b sound.1)
 falls (_ ∷ b) sound = falls b sound.1
 
-abbrev is_at : ℕ → StampRow → Bool
-is_at n s = nat_le n s.serial && nat_le s.serial n
-
-none_at : (token : ReservationValue → Option (List ℕ)) (rs : List ReservationValue) (n : ℕ) → greatest_of rs < n
-    → filter (is_at n) (map (λ r. stamp_of (token r) r) rs) ≡ []
-none_at token [] n above = refl
-none_at token (r ∷ rs) n above =
-    let left : r.serial ≤ max r.serial (greatest_of rs) = le-max_left _ _ in
-    let right : greatest_of rs ≤ max r.serial (greatest_of rs) = le-max_right _ _ in
-    let here : r.serial < n = omega (arith, left, above) in
-    let there : greatest_of rs < n = omega (arith, right, above) in
-    rw (lt-leb n r.serial here) (none_at token rs n there)
-
-first_at : (token : ReservationValue → Option (List ℕ)) (rs : List ReservationValue) → Falls rs
-    → filter (is_at (greatest_of rs)) (map (λ r. stamp_of (token r) r) rs)
-    ≡ option_to_list (option_map (λ r. stamp_of (token r) r) (first_of rs))
+-- the reservation with the greatest number is the last one
+first_at : (token : ℕ → Option (List ℕ)) (rs : List ReservationValue) → Falls rs
+    → option_map (stamp_of (token (greatest_of rs))) (find (λ r. r.serial == greatest_of rs) rs)
+    ≡ option_map (λ r. stamp_of (token r.serial) r) (first_of rs)
 first_at token [] fall = refl
 first_at token (r ∷ rs) fall =
-    let rises : greatest_of rs < r.serial = fall.0 in
-    let same : r.serial ≤ r.serial = omega arith in
-    let greatest : max r.serial (greatest_of rs) ≡ r.serial = max-eq_left (omega (arith, rises)) in
-    let P : ℕ → Type 0 =
-    λ n. filter (is_at n) (map (λ x. stamp_of (token x) x) (r ∷ rs)) ≡ stamp_of (token r) r ∷ [] in
-    let here : P r.serial = rw (le-leb r.serial r.serial same, none_at token rs r.serial rises) refl in
-    subst P (sym greatest) here
-
-turned_option : {X : Type 0} (o : Option X) → reverse (option_to_list o) ≡ option_to_list o
-turned_option None = refl
-turned_option (Some x) = refl
-
-last_among : (b : History) → IsSound b
-    → stamps_between (greatest_serial b) (greatest_serial b) b ≡ option_to_list (last_stamp_of b)
-last_among b sound =
-    ap reverse (first_at (λ r. token_of r.serial b) (reservations b) (falls b sound)) ∙ turned_option (last_stamp_of b)
+    let greatest : max r.serial (greatest_of rs) ≡ r.serial =
+    max-eq_left (let rises = fall.0 in omega (arith, rises)) in
+    rw (greatest, eq-eqb r.serial r.serial refl) refl
 
 pub last_found : (b : History) (serial : ℕ) (found : Option Stamp) → IsSound b → serial ≡ greatest_serial b
     → IsNextStamp serial serial b found → option_map stamp_view found ≡ last_stamp_of b
 last_found b serial found sound is next =
-    go found (last_stamp_of b) (last_among b sound) (subst (λ n. IsNextStamp n n b found) is next)
-  where
-    go : (found : Option Stamp) (o : Option StampRow)
-        → stamps_between (greatest_serial b) (greatest_serial b) b ≡ option_to_list o
-        → IsNextStamp (greatest_serial b) (greatest_serial b) b found → option_map stamp_view found ≡ o
-    go None None are next = refl
-    go None (Some s) are next = let apart = sym next ∙ are in cc
-    go (Some stamp) None are next = let apart = sym next ∙ are in cc
-    go (Some stamp) (Some s) are next = let same = sym next ∙ are in cc
+    stamp_found b (greatest_serial b) found sound (subst (λ n. IsNextStamp n n b found) is next)
+    ∙ first_at (λ n. token_of n b) (reservations b) (falls b sound)
 
 -- ---- its identity, and a later one
 
@@ -250,35 +215,6 @@ entries_are c b sound tells carried =
     ∙ ap₂ (λ hs rest. entry_if Calibrated (latest_calibration b) ++ (map Held hs ++ rest))
     (filter_turned (λ h. not (holds_all h)) (holds b))
     (ap₂ (λ xs ys. xs ++ ys) (last_is (void_in c) b sound tells) (later_is b sound))
-
--- one hold more
-one_alone : (h : HoldValue) → entries_of_hold h ≡ entries_of_holds (h ∷ [])
-one_alone h = go (holds_all h)
-  where
-    go : (b : Bool) → (if b then [] else Held h ∷ []) ≡ map Held (if not b then h ∷ [] else [])
-    go true = refl
-    go false = refl
-
-one_hold : (old now new : List Entry) (hs : List HoldValue) (h : HoldValue) → now ≡ old ++ entries_of_holds hs
-    → new ≡ now ++ entries_of_hold h → new ≡ old ++ entries_of_holds (hs ++ h ∷ [])
-one_hold old now new hs h before more =
-    more ∙ ap (λ es. es ++ entries_of_hold h) before ∙ append_assoc old (entries_of_holds hs) (entries_of_hold h)
-    ∙ ap (λ es. old ++ (entries_of_holds hs ++ es)) (one_alone h)
-    ∙ ap (λ es. old ++ es) (sym (ap (map Held) (filter-append (λ h. not (holds_all h)) hs (h ∷ []))
-    ∙ map-append Held (filter (λ h. not (holds_all h)) hs) (filter (λ h. not (holds_all h)) (h ∷ []))))
-
-map_more : (hs : List Hold) (i : ℕ) (d : Hold) → i < length hs
-    → map hold_view (take i hs) ++ hold_view (get_or hs i d) ∷ [] ≡ map hold_view (take (i + 1) hs)
-map_more hs i d inside =
-    sym (map-append hold_view (take i hs) (get_or hs i d ∷ [])) ∙ ap (map hold_view) (sym (take_more hs i d inside))
-
-pub next_hold : (old now new : List Entry) (hs : List Hold) (i : ℕ) (d : Hold) → i < length hs
-    → now ≡ old ++ entries_of_holds (map hold_view (take i hs))
-    → new ≡ now ++ entries_of_hold (hold_view (get_or hs i d))
-    → new ≡ old ++ entries_of_holds (map hold_view (take (i + 1) hs))
-next_hold old now new hs i d inside before more =
-    one_hold old now new (map hold_view (take i hs)) (hold_view (get_or hs i d)) before more
-    ∙ ap (λ hs. old ++ entries_of_holds hs) (map_more hs i d inside)
 
 -- ---- the old book
 
@@ -446,9 +382,7 @@ pub unclosed_in : {D : Type 0} (disk : Disk D) (held : Image) (Refuses : StoreFa
     → IfErr done (IsRefusedBy disk held Refuses floor)
 unclosed_in disk held Refuses floor (Ok carried) closes = tt
 unclosed_in disk held Refuses floor (Err (Unopened fault)) (opened, found, (left, refused, closed)) = absurd refused
-unclosed_in disk held Refuses floor (Err (Unclosed fault)) closes = closes
-unclosed_in disk held Refuses floor (Err NotAfter) closes = closes
-unclosed_in disk held Refuses floor (Err (Unfinished fault)) closes = closes
+unclosed_in disk held Refuses floor _ closes = closes
 
 -- closed, with no new one
 pub unfinished_in : {D : Type 0} (disk : Disk D) (held : Image) (Refuses : StoreFault → Type 0) (floor : Option Floor)

@@ -7,7 +7,7 @@ use Rattle.std.specs.List.{flat_map}
 use Rattle.audit.specs.Auditor.{IsAllowed, IsMet}
 use Rattle.audit.specs.Auditor as auditor
 use Rattle.audit.specs.Consistent.{IsConsistent}
-use Rattle.audit.specs.Extract.{extract_text, header_text, stamps_text}
+use Rattle.audit.specs.Extract.{extract_text, lines_text}
 use Rattle.audit.specs.Fault.{count_after}
 use Rattle.audit.specs.Intact.{IsIntact}
 use Rattle.audit.specs.declared.fault.ExtractFault.{ExtractFault}
@@ -33,10 +33,6 @@ use Rattle.operations.specs.declared.audits.AuditFault.TheVariants as fault
 use Rattle.operations.specs.declared.audits.Findings.{Findings}
 use Rattle.operations.specs.declared.audits.Inquiry.{Inquiry}
 use Rattle.operations.specs.declared.kept.Kept.{Kept}
-
--- the extract of some stamps
-abbrev pub extract_of : List StampRow → List ℕ
-extract_of stamps = header_text ++ stamps_text stamps
 
 -- stamps are looked at more closely than their extract wants
 abbrev pub IsExamining : Inquiry → Type 0
@@ -125,11 +121,11 @@ TellsSome old new =
 
 -- an extract was written, of whatever stamps the database told
 abbrev pub WritesExtract : Option (List ℕ) → Option (List ℕ) → Type 0
-WritesExtract old new = (stamps : List StampRow) × Appends old new (extract_of stamps)
+WritesExtract old new = (stamps : List StampRow) × Appends old new (lines_text stamps)
 
 -- a beginning of one was written
 abbrev pub BeginsExtract : Option (List ℕ) → Option (List ℕ) → Type 0
-BeginsExtract old new = (stamps : List StampRow) × (n : ℕ) × Appends old new (take n (extract_of stamps))
+BeginsExtract old new = (stamps : List StampRow) × (n : ℕ) × Appends old new (take n (lines_text stamps))
 
 -- the extract was refused on the way
 abbrev pub IsExtractFault : AuditFault → Type 0

@@ -122,17 +122,14 @@ IsBelow (Some floor) b =
 
 -- how what is carried on can't be looked up
 abbrev pub IsLookFault : ContinuationFault → Type 0
-IsLookFault (Unopened fault) = ⊥
 IsLookFault (Unclosed fault) = IsOpeningFault fault
 IsLookFault NotAfter = Unit {0}
-IsLookFault (Unfinished fault) = ⊥
+IsLookFault _ = ⊥
 
 -- it is refused from the closing on
 abbrev pub HasBegun : ContinuationFault → Type 0
-HasBegun (Unopened fault) = ⊥
-HasBegun (Unclosed fault) = ⊥
-HasBegun NotAfter = ⊥
 HasBegun (Unfinished fault) = Unit {0}
+HasBegun _ = ⊥
 
 -- the closing is begun only where this is so
 abbrev pub BeginsOnlyIf : {A : Type 0} → Type 0 → Result A ContinuationFault → Type 0

@@ -19,16 +19,13 @@ abbrev pub IsStartingFault : OperationFault → Type 0
 IsStartingFault (operation.Store fault) = IsOpeningFault fault
 IsStartingFault (operation.Desk fault) = IsDeskFault fault
 IsStartingFault operation.Unreached = Unit {0}
-IsStartingFault operation.Unheard = ⊥
-IsStartingFault operation.Clock = ⊥
+IsStartingFault _ = ⊥
 
 -- nor the address listened on, nor the clock read
 abbrev pub IsServingFault : OperationFault → Type 0
 IsServingFault (operation.Store fault) = IsOpeningFault fault
 IsServingFault (operation.Desk fault) = IsDeskFault fault
-IsServingFault operation.Unreached = Unit {0}
-IsServingFault operation.Unheard = Unit {0}
-IsServingFault operation.Clock = Unit {0}
+IsServingFault _ = Unit {0}
 
 -- the key holder can't be reached, or the identity not installed
 abbrev pub IsUnready : OperationFault → Type 0

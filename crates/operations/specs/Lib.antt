@@ -8,7 +8,7 @@ pub mod Kept
 pub mod Machine
 pub mod OverFiles
 pub mod AnySigner
-pub mod AnySignerLaws
 pub mod Signing
 pub mod Visits
 pub mod VoidStamp
+pub mod auxiliary

@@ -14,9 +14,9 @@ ghost use Rattle.judgement.specs.Judged.{IsJudgedBehind};
 ghost use Rattle.judgement.specs.Readings.{evidence_in};
 ghost use Rattle.operations.specs.Audits.{Allows, BeginsExtract, ComesWhere, CountsAudit, CountsFaults, Examines};
 ghost use Rattle.operations.specs.Audits.{ExaminesBehind, IsCutOff, IsExamining, IsExtractFault, IsFound, Knows};
-ghost use Rattle.operations.specs.declared.audits.AuditFault.TheVariants.{Extract, Store};
+ghost use Rattle.operations.specs.declared.audits.AuditFault.TheVariants.{Store};
 ghost use Rattle.operations.specs.Audits.{IsAudited, IsAuditOf, Leaves, TellsFailing, TellsSome, WritesExtract};
-ghost use Rattle.operations.specs.Audits.{Deposit, Judged, Row, failing_line, failing_lines, failures_of, judged_of};
+ghost use Rattle.operations.specs.Audits.{Deposit, Judged, Row, failing_lines, failures_of, judged_of};
 ghost use Rattle.operations.specs.Kept.{rows_before};
 ghost use Rattle.operations.specs.OverFiles.{IsAuditedOver, IsUnopenedAs};
 ghost use Rattle.policy.specs.View.{policy_view};
@@ -62,14 +62,6 @@ impl From<StoreFault> for AuditFault {
 
     fn from(fault: StoreFault) -> AuditFault {
         AuditFault::Store(fault)
-    }
-}
-
-impl From<ExtractFault> for AuditFault {
-    ghost from_gives = { λ fault e. e ≡ Extract fault };
-
-    fn from(fault: ExtractFault) -> AuditFault {
-        AuditFault::Extract(fault)
     }
 }
 
@@ -195,7 +187,8 @@ fn write_extract<B: Book + Drop, O: Write>(
         inquiry.from,
         inquiry.to,
         output,
-    )?;
+    )
+    .map_err(AuditFault::Extract)?;
     output
         .flush()
         .or(Err(AuditFault::Extract(ExtractFault::Write)))
@@ -247,7 +240,7 @@ fn kept_for<B: Book>(
     ensures faults { CountsFaults result (B.fault_count book.old) (B.fault_count book.new) }
 {
     if inquiry.judge {
-        return kept_before(alloc, book, inquiry.from);
+        return Ok(kept_before(alloc, book, inquiry.from)?);
     }
     let identities = book.identities()?;
     Ok(Kept {
@@ -403,69 +396,40 @@ fn tell<E: Write>(
 fn lines_of(alloc: Global, serial: u64, found: &Findings) -> Result<String, AllocError>
     ensures { IfOk result (λ lines. string_bytes lines ≡ failing_lines (failures_of serial found.now)) }
 {
-    let mut lines = String::new(alloc);
-    add_row(alloc, &mut lines, serial, found.row)?;
-    add_deposit(alloc, &mut lines, serial, found.deposit)?;
-    add_judged(alloc, &mut lines, serial, found.judged)?;
-    Ok(lines)
+    let row = row_line(alloc, serial, found.row)?;
+    let deposit = deposit_line(alloc, serial, found.deposit)?;
+    let judged = judged_line(alloc, serial, found.judged)?;
+    format!(in alloc; "{row}{deposit}{judged}")
 }
 
-/// Adds the line of a row, unless that passes.
-fn add_row(alloc: Global, lines: &mut String, serial: u64, passes: bool) -> Result<(), AllocError>
-    ensures { OnOk result (string_bytes lines.new
-        ≡ string_bytes lines.old ++ failing_lines (if passes then [] else Row serial ∷ [])) }
+/// The line of a row, none where that passes.
+fn row_line(alloc: Global, serial: u64, passes: bool) -> Result<String, AllocError>
+    ensures { IfOk result (λ line. string_bytes line ≡ failing_lines (if passes then [] else Row serial ∷ [])) }
 {
     if passes {
-        return Ok(());
+        return Ok(String::new(alloc));
     }
-    let line = row_line(alloc, serial)?;
-    lines.push_str(line.as_str())
-}
-
-fn row_line(alloc: Global, serial: u64) -> Result<String, AllocError>
-    ensures { IfOk result (λ line. string_bytes line ≡ failing_line (Row serial)) }
-{
     format!(in alloc; "row {serial} fails\n")
 }
 
-/// Adds the line of a deposit, unless that passes.
-fn add_deposit(
-    alloc: Global,
-    lines: &mut String,
-    number: u64,
-    passes: bool,
-) -> Result<(), AllocError>
-    ensures { OnOk result (string_bytes lines.new
-        ≡ string_bytes lines.old ++ failing_lines (if passes then [] else Deposit number ∷ [])) }
+/// The line of a deposit, none where that passes.
+fn deposit_line(alloc: Global, number: u64, passes: bool) -> Result<String, AllocError>
+    ensures { IfOk result (λ line. string_bytes line ≡ failing_lines (if passes then [] else Deposit number ∷ [])) }
 {
     if passes {
-        return Ok(());
+        return Ok(String::new(alloc));
     }
-    let line = deposit_line(alloc, number)?;
-    lines.push_str(line.as_str())
-}
-
-fn deposit_line(alloc: Global, number: u64) -> Result<String, AllocError>
-    ensures { IfOk result (λ line. string_bytes line ≡ failing_line (Deposit number)) }
-{
     format!(in alloc; "deposit {number} fails\n")
 }
 
-/// Adds the line of a judgement, unless the row is given by the rules, or taken as it stands.
-fn add_judged(
-    alloc: Global,
-    lines: &mut String,
-    serial: u64,
-    judged: Option<Judgement>,
-) -> Result<(), AllocError>
-    ensures { OnOk result (string_bytes lines.new
-        ≡ string_bytes lines.old ++ failing_lines (judged_of serial judged)) }
+/// The line of a judgement, none where the row is given by the rules, or taken as it stands.
+fn judged_line(alloc: Global, serial: u64, judged: Option<Judgement>) -> Result<String, AllocError>
+    ensures { IfOk result (λ line. string_bytes line ≡ failing_lines (judged_of serial judged)) }
 {
     let Some(judgement) = told(judged) else {
-        return Ok(());
+        return Ok(String::new(alloc));
     };
-    let line = judgement_line(alloc, serial, judgement)?;
-    lines.push_str(line.as_str())
+    format!(in alloc; "row {serial} {judgement}\n")
 }
 
 /// What of a judgement is told.
@@ -476,10 +440,4 @@ fn told(judged: Option<Judgement>) -> Option<Judgement>
         None | Some(Judgement::Given) => None,
         Some(judgement) => Some(judgement),
     }
-}
-
-fn judgement_line(alloc: Global, serial: u64, judgement: Judgement) -> Result<String, AllocError>
-    ensures { IfOk result (λ line. string_bytes line ≡ failing_line (Judged serial judgement)) }
-{
-    format!(in alloc; "row {serial} {judgement}\n")
 }

@@ -9,11 +9,11 @@ ghost use Rattle.book.specs.Entries.{FitInTurn, entries_view, with_all};
 ghost use Rattle.book.specs.Stands.{Stands};
 ghost use Rattle.book.specs.declared.fault.StoreFault.{StoreFault as SpecFault};
 ghost use Rattle.operations.specs.DatabaseFaults.{IsOpeningFault};
-ghost use Rattle.operations.specs.OverFiles.{IsClosedAs, IsMadeOver, IsOpenedOver};
+ghost use Rattle.operations.specs.OverFiles.{IsMadeOver, IsOpenedOver};
 
 use book::{Book, Entry, StoreFault};
 use sqlite::FileStore;
-use sqlite_disk::{Disk, Files};
+use sqlite_disk::Disk;
 use store::Store;
 
 /// The database at a path, before it is opened.
@@ -127,13 +127,6 @@ pub(crate) fn make_at<F: DatabaseFiles>(
     ensures refusals { IfErr result IsOpeningFault }
 {
     let made = database.files.make(database.path, entries)?;
-    let _closed = close_files(made);
+    let _closed = made.close_database();
     Ok(())
-}
-
-/// Closes a store over files: what came of that.
-fn close_files<D: Disk + Drop>(store: Store<FileStore<D>>) -> Result<Files<D>, StoreFault>
-    ensures { IsClosedAs D.Disk store result }
-{
-    store.close_database()
 }

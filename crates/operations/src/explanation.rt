@@ -1,22 +1,16 @@
 //! How a stamp that the database at a path keeps is explained.
-ghost use Rattle.std.specs.Prelude.{◌⊎◌, List, IfErr, IfOk, option_map};
+ghost use Rattle.std.specs.Prelude.{◌⊎◌, IfErr, IfOk, option_map};
 ghost use Rattle.policy.specs.View.{policy_view};
 ghost use Rattle.book.specs.Fault.{IsOfStorage};
 ghost use Rattle.book.specs.History.{History};
-ghost use Rattle.book.specs.Rows.{StampRow};
 ghost use Rattle.book.specs.Stands.{OnlyLooks, Stands};
-ghost use Rattle.book.specs.Values.{stamp_view};
-ghost use Rattle.judgement.specs.Explanation.{IsExplanation};
-ghost use Rattle.judgement.specs.Past.{IsPast};
-ghost use Rattle.judgement.specs.Readings.{evidence_in};
 ghost use Rattle.operations.specs.DatabaseFaults.{IsOpeningFault};
 ghost use Rattle.operations.specs.Explanations.{Explains, IsExplainedOver, IsExplanationOf, IsLookedAtOver};
 
 use crate::database::{Database, DatabaseFiles};
+use crate::kept::kept_before;
 use crate::operation::{Operation, perform_at};
-use crate::past::past_up_to;
-use book::{Book, Stamp, StoreFault};
-use judgement::{Evidence, Past};
+use book::{Book, StoreFault};
 use policy::Policy;
 use std::alloc::Global;
 
@@ -87,33 +81,7 @@ fn explain_in<B: Book>(
     let Some(stamp) = book.next_stamp(serial, serial)? else {
         return Ok(None);
     };
-    let past = past_up_to(alloc, book, serial.saturating_sub(1))?;
-    let text = explain_behind(alloc, book, policy, &past, &stamp)?;
+    let kept = kept_before(alloc, book, serial)?;
+    let text = kept.explain(alloc, policy, &stamp)?;
     Ok(Some(text))
-}
-
-/// Explains a stamp behind the rows before it, by what a book keeps.
-fn explain_behind<B: Book>(
-    alloc: Global,
-    book: &mut B,
-    policy: &Policy,
-    past: &Past,
-    stamp: &Stamp,
-) -> Result<Vec<u8>, StoreFault>
-    ensures looks { OnlyLooks B.Standing book.old book.new }
-    ensures explained { B.honest book.new → (b : History) → Stands B.Standing b book.old → (before : List StampRow)
-        → IsPast before past.now → IfOk result (λ text. IsExplanation (evidence_in (policy_view policy.now) b) before
-        (stamp_view stamp.now) text.items) }
-    ensures refusals { IfErr result IsOfStorage }
-{
-    let calibrations = book.calibrations()?;
-    let holds = book.holds()?;
-    let identities = book.identities()?;
-    let evidence = Evidence {
-        policy,
-        calibrations: calibrations.as_slice(),
-        holds: holds.as_slice(),
-        identities: identities.as_slice(),
-    };
-    judgement::explain(alloc, &evidence, past, stamp).or(Err(StoreFault::Memory))
 }

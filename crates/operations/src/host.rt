@@ -10,10 +10,9 @@ use crate::fault::OperationFault;
 use crate::signers::{AnySigner, HostSigner, Signers};
 use book::Entry;
 use cms::{Algorithm, KeyedHash, Signer};
-use sessions::{KeyHolderSigner, SIGNER_SECONDS, Session, connect_reconnecting, connect_signer};
+use sessions::{SIGNER_SECONDS, connect_reconnecting, connect_signer};
 use sqlite::{FileFrom, FileStore, Start, Unknown};
 use sqlite_disk::{Disk, Files};
-use std::io::Stderr;
 use std::time::Duration;
 use store::{Paths, Store, StoreFault, may_make_at};
 
@@ -100,7 +99,7 @@ pub enum Renewal {
     },
 }
 
-impl<'a> Signing<'a> {
+impl Signing<'_> {
     /// The algorithm of the signatures. Takes no memory.
     pub fn algorithm(&self) -> &Algorithm
         ensures { result.now ≡ algorithm_of self.now }
@@ -113,59 +112,6 @@ impl<'a> Signing<'a> {
             } => algorithm,
         }
     }
-
-    /// Reaches who signs: by a connection to a key holder, and the stand-in as it is. `Unreached` where the key holder
-    /// can't be reached.
-    pub(crate) fn reach(
-        self,
-        rt: &'a HostRuntime,
-        renewal: Renewal,
-    ) -> Result<HostSigner<'a>, OperationFault>
-        ensures reached { IfOk result (IsReached ⟦<HostSigner<'static> as Signer>⟧ (algorithm_of self.entry)) }
-        ensures kind { IfOk result (IsOfKind self.entry renewal) }
-        ensures refusals { IfErr result IsUnreached }
-    {
-        match self {
-            Signing::Keyed(signer) => Ok(AnySigner::Keyed(signer)),
-            Signing::Session { address, algorithm } => match renewal {
-                Renewal::Never => Ok(AnySigner::Session(reach_once(rt, address, algorithm)?)),
-                Renewal::AfterLoss { told } => Ok(AnySigner::Reconnecting(reach_again(
-                    rt, address, algorithm, told,
-                )?)),
-            },
-        }
-    }
-}
-
-/// A session with the key holder. `Unreached` where there is none.
-fn reach_once<'a>(
-    rt: &'a HostRuntime,
-    address: &str,
-    algorithm: Algorithm,
-) -> Result<Session<'a, HostRuntime>, OperationFault>
-    ensures algorithm { IfOk result (λ signer. signer.algorithm ≡ algorithm) }
-    ensures unused { IfOk result (λ signer. signer.faults ≡ 0) }
-    ensures refusals { IfErr result IsUnreached }
-{
-    let limit = Duration::from_secs(SIGNER_SECONDS);
-    connect_signer(rt, address, limit, algorithm).or(Err(OperationFault::Unreached))
-}
-
-/// Sessions with the key holder, of which standard error tells where they are to be told. `Unreached` where there is
-/// none.
-fn reach_again<'a>(
-    rt: &'a HostRuntime,
-    address: &'a str,
-    algorithm: Algorithm,
-    told: bool,
-) -> Result<KeyHolderSigner<'a, HostRuntime, Stderr>, OperationFault>
-    ensures algorithm { IfOk result (λ signer. signer.algorithm ≡ algorithm) }
-    ensures unused { IfOk result (λ signer. signer.faults ≡ 0) }
-    ensures refusals { IfErr result IsUnreached }
-{
-    let limit = Duration::from_secs(SIGNER_SECONDS);
-    let notices = told.then(|| rt.stderr());
-    connect_reconnecting(rt, address, limit, algorithm, notices).or(Err(OperationFault::Unreached))
 }
 
 /// What reaches who signs, from this machine.
@@ -195,7 +141,26 @@ impl<'a> Signers for HostSigners<'a> {
         ensures kind { IfOk result (IsOfKind self.entry.signing self.entry.renewal) }
         ensures refusals { IfErr result IsUnreached }
     {
-        self.signing.reach(self.rt, self.renewal)
+        let HostSigners {
+            rt,
+            signing,
+            renewal,
+        } = self;
+        let limit = Duration::from_secs(SIGNER_SECONDS);
+        match signing {
+            Signing::Keyed(signer) => Ok(AnySigner::Keyed(signer)),
+            Signing::Session { address, algorithm } => match renewal {
+                Renewal::Never => {
+                    let session = connect_signer(rt, address, limit, algorithm);
+                    Ok(AnySigner::Session(session.or(Err(OperationFault::Unreached))?))
+                }
+                Renewal::AfterLoss { told } => {
+                    let notices = told.then(|| rt.stderr());
+                    let sessions = connect_reconnecting(rt, address, limit, algorithm, notices);
+                    Ok(AnySigner::Reconnecting(sessions.or(Err(OperationFault::Unreached))?))
+                }
+            },
+        }
     }
 
     fn leave(_reached: HostSigner<'a>)

@@ -1,21 +1,22 @@
 //! What a book keeps that a stamp is judged by.
 ghost use Rattle.std.specs.Prelude.{◌≡◌, ◌⊎◌, ◌-◌, ◌++◌, ◌∷◌, [], List, IfOk, IfErr};
+ghost use Rattle.book.specs.Fault.{CountsFaults, IsOfStorage};
 ghost use Rattle.book.specs.History.{History};
 ghost use Rattle.book.specs.Rows.{StampRow};
 ghost use Rattle.book.specs.Stands.{OnlyLooks, Stands};
 ghost use Rattle.book.specs.Values.{stamp_view};
+ghost use Rattle.judgement.specs.Explanation.{IsExplanation};
 ghost use Rattle.judgement.specs.Judged.{IsJudgedBehind};
 ghost use Rattle.judgement.specs.Past.{IsPast};
 ghost use Rattle.judgement.specs.Readings.{evidence_in};
 ghost use Rattle.judgement.specs.View.{evidence_view};
-ghost use Rattle.operations.specs.Audits.{CountsFaults};
 ghost use Rattle.operations.specs.Kept.{IsKept, rows_before};
 ghost use Rattle.policy.specs.View.{policy_view};
 
 use crate::past::past_up_to;
 use audit::ExtractFault;
-use book::{Book, Calibration, Hold, IdentityRow, Stamp};
-use judgement::{Evidence, Judgement, Past, judge_behind};
+use book::{Book, Calibration, Hold, IdentityRow, Stamp, StoreFault};
+use judgement::{Evidence, Judgement, Past, explain, judge_behind};
 use policy::Policy;
 use std::alloc::Global;
 
@@ -63,19 +64,33 @@ impl Kept {
         self.past.add(stamp)?;
         Ok(judged)
     }
+
+    /// Explains a stamp behind the rows, by a policy file. Refused where memory runs out.
+    pub(crate) fn explain(
+        &self,
+        alloc: Global,
+        policy: &Policy,
+        stamp: &Stamp,
+    ) -> Result<Vec<u8>, StoreFault>
+        ensures explained { (b : History) (rows : List StampRow) → IsKept b rows self.now → IfOk result (λ text.
+            IsExplanation (evidence_in (policy_view policy.now) b) rows (stamp_view stamp.now) text.items) }
+        ensures refusals { IfErr result (λ fault. fault ≡ StoreFault.Memory) }
+    {
+        explain(alloc, &self.evidence(policy), &self.past, stamp).or(Err(StoreFault::Memory))
+    }
 }
 
 /// What a book keeps that the stamp of a serial number is judged by, with the rows before it. Refused with `Memory` and
-/// `Store`, where they are met. The book changes nowhere, and no row is kept.
+/// `Database`, where they are met. The book changes nowhere, and no row is kept.
 pub(crate) fn kept_before<B: Book>(
     alloc: Global,
     book: &mut B,
     serial: u64,
-) -> Result<Kept, ExtractFault>
+) -> Result<Kept, StoreFault>
     ensures looks { OnlyLooks B.Standing book.old book.new }
     ensures value { B.honest book.new → (b : History) → Stands B.Standing b book.old
         → IfOk result (IsKept b (rows_before serial b)) }
-    ensures refusals { IfErr result (λ e. (e ≡ ExtractFault.Memory) ⊎ (e ≡ ExtractFault.Store)) }
+    ensures refusals { IfErr result IsOfStorage }
     ensures faults { CountsFaults result (B.fault_count book.old) (B.fault_count book.new) }
 {
     let calibrations = book.calibrations()?;

@@ -2,17 +2,12 @@
 ghost use Rattle.std.specs.Prelude.{◌≡◌, IfErr, IfOk, OnErr, Result};
 ghost use Rattle.book.specs.declared.fault.StoreFault.{StoreFault as SpecFault};
 ghost use Rattle.book.specs.declared.standing.Standing.{Ghosts};
-ghost use Rattle.sqlite.specs.Files.{over_files};
-ghost use Rattle.store.specs.Stands.{over_tables};
 ghost use Rattle.operations.specs.DatabaseFaults.{IsOpeningFault};
-ghost use Rattle.operations.specs.OverFiles.{IsDoneOver, IsLeftOver};
+ghost use Rattle.operations.specs.OverFiles.{IsDoneOver};
 
 use crate::database::{Database, DatabaseFiles, OpenDatabase};
 use book::{Book, StoreFault};
-use sqlite::FileStore;
-use sqlite_disk::Disk;
 use std::alloc::Global;
-use store::Store;
 
 /// What is done to a history, however the book is kept. Input and output are what it reads from and writes to; `()`
 /// where it does neither.
@@ -64,22 +59,7 @@ pub(crate) fn perform_at<F: DatabaseFiles, I, O, T: Operation<I, O>>(
     ensures refusals { IfErr result IsOpeningFault }
 {
     let store = database.files.open(database.path)?;
-    Ok(perform_in_files(alloc, store, operation, input, output))
-}
-
-/// Does it to the history of a store over files, and closes that.
-fn perform_in_files<D: Disk + Drop, I, O, T: Operation<I, O>>(
-    alloc: Global,
-    store: Store<FileStore<D>>,
-    operation: T,
-    input: &mut I,
-    output: &mut O,
-) -> T::Answer
-    ensures answered { T.answers operation input.old input.new output.old output.new result }
-    ensures moved { IsLeftOver D.Disk (λ left. T.moves _ (over_tables over_files) operation store left input.old
-        input.new output.old output.new result) }
-{
-    perform_and_close(alloc, store, operation, input, output)
+    Ok(perform_and_close(alloc, store, operation, input, output))
 }
 
 /// Does it to the history of a database that was opened, and closes that.

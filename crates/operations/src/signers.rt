@@ -53,7 +53,7 @@ pub type HostSigner<'a> = AnySigner<
 
 impl<S: Signer, K: Signer> Signer for AnySigner<S, K> {
     ghost use Rattle.operations.specs.AnySigner.{algorithm_of, faults_of, SignsAsAny, SendsAsAny, AwaitsAsAny};
-    ghost use Rattle.operations.specs.AnySignerLaws.{sends_nothing, sends_after, all_signed, all_sent};
+    ghost use Rattle.operations.specs.auxiliary.AnySignerLaws.{sends_nothing, sends_after, all_signed, all_sent};
 
     ghost signs = { SignsAsAny S.signs K.signs };
 

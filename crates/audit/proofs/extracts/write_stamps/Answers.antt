@@ -1,10 +1,8 @@
-use Rattle.std.proofs.Common.{Err, ap, arith, length, refl, rules, ◌≡◌, ◌+◌, IfSome, subst, sym, ◌∙◌}
+use Rattle.std.proofs.Common.{Err, ap, arith, refl, rules, ◌≡◌, IfSome, subst, ◌∙◌}
 use Rattle.std.proofs.lemmas.Result.{err_from_is_err_and}
-use Rattle.audit.specs.Failures.{StopsFor}
-use Rattle.audit.specs.Steps.{IsLine}
+use Rattle.audit.specs.auxiliary.Steps.{IsLine}
 use Rattle.audit.specs.Writes.{Writes}
-use Rattle.audit.proofs.Lines.{added, begun, cut_first, cut_later, first_stops, later_stops, next_left}
-use Rattle.audit.proofs.Lines.{some_header, some_line}
+use Rattle.audit.proofs.Lines.{added, begun, cut_first, cut_later, next_left, some_header, some_line}
 use Rattle.audit.proofs.extracts.write_stamps.Goals as goal
 
 pub write_line-requires-clause-some : goal.write_line-requires-clause-some
@@ -61,30 +59,3 @@ returns-in_err-write_line-2-clause-written g c =
     c.loop-line.invariant.0 c.in_ok-line.ensures.looks (c.deref.ensures.value ∙ line.1)
     (λ h b s. next_left _ _ _ _ _ c.in-Some.is c.deref.ensures.value (c.in_ok-line.ensures.value h b s))
     c.in_err-write_line-2.ensures.written)
-
-pub returns-in_err-write_line-clause-stopped : goal.returns-in_err-write_line-clause-stopped
-returns-in_err-write_line-clause-stopped g c = λ h b s e.
-    first_stops _ _ _ _ _ b _ _ c.requires c.header.ensures c.in_err-write_line.ensures.stopped
-
-pub returns-in_err-write_line-clause-kept : goal.returns-in_err-write_line-clause-kept
-returns-in_err-write_line-clause-kept g c =
-    let failing = err_from_is_err_and c.from_residual.result c.from_residual.ensures.1 in
-    rw (failing.1 ∙ ap Err failing.2) (λ other. absurd (other c.in_err-write_line.ensures.written.is.1))
-
-pub returns-in_err-write_line-2-clause-stopped : goal.returns-in_err-write_line-2-clause-stopped
-returns-in_err-write_line-2-clause-stopped g c =
-    let store = c.in_err-write_line-2.store-in-Break-branch-4-1-own.given.0 in
-    let same : c.next_line.new.walk.book.now ≡ store = search rules in
-    let all = later_stops g.B.Standing c.args.store.now c.loop-line.walk.book.now c.next_line.new.walk.book.now _ _ _ _
-    _ _ _ _ _ c.args.meter.now.limit c.deref.result.now _ _ _ c.loop-line.invariant.0 c.in_ok-line.ensures.looks
-    (λ h b s. next_left _ _ _ _ _ c.in-Some.is c.deref.ensures.value (c.in_ok-line.ensures.value h b s))
-    c.loop-line.invariant.3
-    (subst (λ n. StopsFor n (c.loop-line.meter.octets + length c.deref.result.now) (g.W.Output.failures c.loop-line.out)
-    (g.W.Output.failures c.write_line-in-Some.new.out)) c.loop-line.invariant.4 c.in_err-write_line-2.ensures.stopped) in
-    λ h b s e. all (subst g.B.Standing.honest (sym same) h) b s
-
-pub returns-in_err-write_line-2-clause-kept : goal.returns-in_err-write_line-2-clause-kept
-returns-in_err-write_line-2-clause-kept g c =
-    let failing = err_from_is_err_and c.from_residual-in_err-write_line-2.result
-    c.from_residual-in_err-write_line-2.ensures.1 in
-    rw (failing.1 ∙ ap Err failing.2) (λ other. absurd (other c.in_err-write_line-2.ensures.written.is.1))

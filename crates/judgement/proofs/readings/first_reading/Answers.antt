@@ -6,8 +6,8 @@ use Rattle.decide.specs.Clock.{step}
 use Rattle.policy.specs.View.{counter_view}
 use Rattle.book.specs.Sound.{greatest_number}
 use Rattle.book.specs.Values.{calibration_view, hold_view}
-use Rattle.judgement.specs.Search.{IsFirstReading}
-use Rattle.judgement.proofs.Clocks.{first_is, is_multiple, no_reading_before, no_reading_counted, no_reading_late}
+use Rattle.judgement.specs.auxiliary.Search.{IsFirstReading}
+use Rattle.judgement.proofs.Clocks.{first_is, is_multiple}
 use Rattle.judgement.proofs.readings.first_reading.Goals as goal
 
 pub returns-then-gen_time-step-ne0 : goal.returns-then-gen_time-step-ne0
@@ -15,21 +15,6 @@ returns-then-gen_time-step-ne0 c = λ reading k.
     absurd (c.if-gen_time-step-ne0.true (ap (λ s. c.args.gen_time % s) c.step-step.ensures.value
     ∙ is_multiple (counter_view c.args.counter.now) c.args.gen_time (calibration_view c.args.calibration.now) _ reading
     k.under))
-
-pub returns-then-after-step : goal.returns-then-after-step
-returns-then-after-step c =
-    no_reading_late (counter_view c.args.counter.now) (map hold_view c.args.holds.now) c.args.gen_time
-    (calibration_view c.args.calibration.now) _ c.first_moment-now.result c.first_moment-now.ensures
-    (omega (arith, c.step-step.ensures.value, c.if-after-step.true))
-
-pub returns-in_default : goal.returns-in_default
-returns-in_default c =
-    no_reading_counted (counter_view c.args.counter.now) (map hold_view c.args.holds.now) c.args.gen_time
-    (calibration_view c.args.calibration.now) _ c.first_moment-now.result c.first_moment-now.ensures
-    c.in_default.ensures
-
-pub reading_of-requires : goal.reading_of-requires
-reading_of-requires c = c.first_moment-now.ensures.since
 
 pub returns-then-precedes : goal.returns-then-precedes
 returns-then-precedes c =
@@ -49,16 +34,3 @@ returns-then-precedes c =
     subst F (sym (to_z-of_z fits))
     (first_is counter holds c.args.gen_time calibration next c.first_moment-now.result r c.first_moment-now.ensures
     multiple (omega (arith, c.step-step.ensures.value, c.if-after-step.false)) c.in-Some.ensures small is_until)
-
-pub returns-else-precedes : goal.returns-else-precedes
-returns-else-precedes c =
-    let r = c.in-Some.reading in
-    let fits : SFits w64 r = search rules in
-    let next = option_map (λ x. calibration_view x.now) c.args.next in
-    let U : ℤ → Type 0 = λ z. IfSome next (λ n. z ≤ℤ n.reading) in
-    no_reading_before (counter_view c.args.counter.now) (map hold_view c.args.holds.now) c.args.gen_time
-    (calibration_view c.args.calibration.now) next c.first_moment-now.result r c.first_moment-now.ensures
-    c.in-Some.ensures
-    (λ u.
-    (let again : U r = u in
-    let yes = c.is_before-precedes.ensures.1 (subst U (sym (to_z-of_z fits)) again) in absurd cc))

@@ -1,13 +1,8 @@
 use Rattle.std.proofs.Common.{map, option_map, sym, ap}
 use Rattle.book.specs.Values.{calibration_view}
 use Rattle.judgement.specs.View.{evidence_view}
-use Rattle.judgement.proofs.Clocks.{finds, none_left, none_of, skips, start_left}
+use Rattle.judgement.proofs.Clocks.{finds, none_left, none_of, skips}
 use Rattle.judgement.proofs.readings.good_clock_in.Goals as goal
-
-pub loop-calibration-init : goal.loop-calibration-init
-loop-calibration-init c =
-    start_left (evidence_view c.args.evidence.now) c.args.before.now.last_gen_time c.args.gen_time
-    (map calibration_view c.args.calibrations.now)
 
 pub returns-then-is_some : goal.returns-then-is_some
 returns-then-is_some c =

@@ -30,13 +30,6 @@ returns-then-not-is_consistent c =
           (plan_view c.args.plan.now) stamp c.deref.result.now (tst_view c.in-Ok.tst) read k).consistent in absurd cc),
     )
 
-pub returns-then-not-has_columns : goal.returns-then-not-has_columns
-returns-then-not-has_columns c = (
-  λ e. absurd (cc e),
-  λ k. (let yes = c.has_columns.ensures.1 (record { gen_time = k.gen_time; day = k.day; policy = k.policy }) in
-      absurd cc),
-)
-
 pub returns : goal.returns
 returns c =
     let stamp = stamp_view c.args.stamp.now in

@@ -1,6 +1,6 @@
 use Rattle.std.proofs.Common.{Some, None, subst}
 use Rattle.judgement.specs.Readings.{EvidenceValue, unheld}
-use Rattle.judgement.specs.Search.{IsGoodClock}
+use Rattle.judgement.specs.auxiliary.Search.{IsGoodClock}
 use Rattle.judgement.specs.View.{evidence_view}
 use Rattle.judgement.proofs.Judging.{found_furthest, none_furthest}
 use Rattle.judgement.proofs.stamps.furthest.Goals as goal

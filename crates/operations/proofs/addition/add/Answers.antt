@@ -1,6 +1,6 @@
-use Rattle.std.proofs.Common.{ℕ, inl}
+use Rattle.std.proofs.Common.{ℕ}
 use Rattle.std.proofs.lemmas.Result.{err_from_is_err_and}
-use Rattle.operations.proofs.InDatabases.{anyway, not_backwards}
+use Rattle.operations.proofs.InDatabases.{not_backwards}
 use Rattle.operations.proofs.addition.add.Goals as goal
 
 pub returns-in_err-perform_at-clause-backwards : goal.returns-in_err-perform_at-clause-backwards
@@ -9,11 +9,3 @@ returns-in_err-perform_at-clause-backwards g c =
     λ is.
     absurd (not_backwards {A = ℕ} c.in_err-perform_at.field-0.0 c.in_err-perform_at.ensures.refusals
     (cc (failing.1, failing.2, is)))
-
-pub returns-in_err-perform_at-clause-refused : goal.returns-in_err-perform_at-clause-refused
-returns-in_err-perform_at-clause-refused g c =
-    let failing = err_from_is_err_and c.from_residual.result c.from_residual.ensures.1 in
-    rw (failing.1, failing.2) (inl c.in_err-perform_at.ensures.refused)
-
-pub returns-clause-refused : goal.returns-clause-refused
-returns-clause-refused g c = anyway _ _ _ c.in_ok-perform_at.ensures.moved

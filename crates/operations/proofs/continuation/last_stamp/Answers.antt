@@ -1,12 +1,8 @@
 use Rattle.std.proofs.Common.{ap}
 use Rattle.std.proofs.lemmas.Result.{IfOk-weaker}
 use Rattle.book.specs.declared.values.Last.{Last}
-use Rattle.operations.proofs.ExaminedStamps.{looks_after}
 use Rattle.operations.proofs.GoingOn.{last_found}
 use Rattle.operations.proofs.continuation.last_stamp.Goals as goal
-
-pub returns-clause-looks : goal.returns-clause-looks
-returns-clause-looks g c = looks_after g.B.Standing _ _ _ c.in_ok-last.ensures.looks c.next_stamp.ensures.looks
 
 pub returns-clause-value : goal.returns-clause-value
 returns-clause-value g c honest b s =

@@ -1,4 +1,4 @@
-use Rattle.std.proofs.Common.{◌≤◌, ◌∙◌, None, ap, inl, inr, length, refl, sym, subst, arith}
+use Rattle.std.proofs.Common.{◌≤◌, ◌∙◌, None, ap, inl, inr, length, sym, subst, arith}
 use Rattle.der.specs.Node.{encoding, IsLawful}
 use Rattle.tsp.specs.Request.{Spells}
 use Rattle.tsp.specs.Tst.{SpellsTst, tst_info}
@@ -35,21 +35,6 @@ returns-in-Ok-write_tst-clause-restated c =
         spelled = c.in-Ok-write_tst.ensures.text ∙ ap (λ t. encoding (tst_info t)) c.into_tst_info-tst_info.ensures;
       };
     }
-
-pub returns-in_default-clause-unread : goal.returns-in_default-clause-unread
-returns-in_default-clause-unread c = (
-  λ is. inl (λ r spells short. c.in_default.ensures.only r
-      (subst (λ octets. Spells octets r) (sym c.deref.ensures.value) spells)
-      (subst (λ octets. length octets ≤ 65536) (sym c.deref.ensures.value) short)),
-  λ unread. refl,
-)
-
-pub returns-in_default-read_tst-clause-unread : goal.returns-in_default-read_tst-clause-unread
-returns-in_default-read_tst-clause-unread c = (
-  λ is. inr (λ t spells. c.in_default-read_tst.ensures.only t
-      (subst (λ octets. SpellsTst octets t) (sym c.deref-2.ensures.value) spells)),
-  λ unread. refl,
-)
 
 pub returns-in-Ok-write_tst-clause-unread : goal.returns-in-Ok-write_tst-clause-unread
 returns-in-Ok-write_tst-clause-unread c = (

@@ -10,8 +10,7 @@ use Rattle.book.specs.Rows.{StampRow}
 use Rattle.decide.specs.Clock.{now_at, IsGood}
 use Rattle.decide.specs.Verdict.{PlanValue}
 use Rattle.decide.specs.declared.facts.ClockFacts.{ClockFacts}
-use Rattle.judgement.specs.Readings.{EvidenceValue, IsReadUnder, IsOfSome, IsClockUnder, calibration_of}
-use Rattle.judgement.specs.Readings.{is_held_by}
+use Rattle.judgement.specs.Readings.{EvidenceValue, IsReadUnder, IsOfSome, IsClockUnder, calibration_of, is_held_by}
 
 -- ---- readings
 

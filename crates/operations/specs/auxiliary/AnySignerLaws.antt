@@ -41,18 +41,10 @@ module _ {S K : Type 0} (sent : S → List (List ℕ) → S → Type 0) (sent_re
       one x y z texts others first second
   sends_after one other (Reconnecting x) (Reconnecting y) (Reconnecting z) texts others first second =
       other x y z texts others first second
-  sends_after one other (Keyed x) (Session y) z texts others first second = absurd first
-  sends_after one other (Keyed x) (Reconnecting y) z texts others first second = absurd first
-  sends_after one other (Session x) (Keyed y) z texts others first second = absurd first
-  sends_after one other (Session x) (Reconnecting y) z texts others first second = absurd first
-  sends_after one other (Reconnecting x) (Keyed y) z texts others first second = absurd first
-  sends_after one other (Reconnecting x) (Session y) z texts others first second = absurd first
-  sends_after one other (Keyed x) (Keyed y) (Session z) texts others first second = absurd second
-  sends_after one other (Keyed x) (Keyed y) (Reconnecting z) texts others first second = absurd second
-  sends_after one other (Session x) (Session y) (Keyed z) texts others first second = absurd second
-  sends_after one other (Session x) (Session y) (Reconnecting z) texts others first second = absurd second
-  sends_after one other (Reconnecting x) (Reconnecting y) (Keyed z) texts others first second = absurd second
-  sends_after one other (Reconnecting x) (Reconnecting y) (Session z) texts others first second = absurd second
+  sends_after one other (Keyed x) (Keyed y) z texts others first second = absurd second
+  sends_after one other (Session x) (Session y) z texts others first second = absurd second
+  sends_after one other (Reconnecting x) (Reconnecting y) z texts others first second = absurd second
+  sends_after one other _ _ z texts others first second = absurd first
 
 module _ {S K : Type 0}
     (awaits : S → List (List ℕ) → List (Result (List ℕ) SignerFault) → List (List ℕ) → S → Type 0)
@@ -75,12 +67,7 @@ module _ {S K : Type 0}
   all_signed signs signs_renewed one other (Reconnecting x) (Reconnecting y) texts answers a =
       each_as signs_renewed (SignsAsAny signs signs_renewed) Reconnecting (λ x text answer y step. step) x texts answers
       y (other x y texts answers a)
-  all_signed signs signs_renewed one other (Keyed x) (Session y) texts answers a = absurd a
-  all_signed signs signs_renewed one other (Keyed x) (Reconnecting y) texts answers a = absurd a
-  all_signed signs signs_renewed one other (Session x) (Keyed y) texts answers a = absurd a
-  all_signed signs signs_renewed one other (Session x) (Reconnecting y) texts answers a = absurd a
-  all_signed signs signs_renewed one other (Reconnecting x) (Keyed y) texts answers a = absurd a
-  all_signed signs signs_renewed one other (Reconnecting x) (Session y) texts answers a = absurd a
+  all_signed signs signs_renewed one other _ _ texts answers a = absurd a
 
   pub all_sent : (sent : S → List (List ℕ) → S → Type 0) (sent_renewed : K → List (List ℕ) → K → Type 0)
       → ((x y : S) (texts : List (List ℕ)) (answers : List (Result (List ℕ) SignerFault))
@@ -96,9 +83,4 @@ module _ {S K : Type 0}
       one x y texts answers outstanding a
   all_sent sent sent_renewed one other (Reconnecting x) (Reconnecting y) texts answers outstanding a =
       other x y texts answers outstanding a
-  all_sent sent sent_renewed one other (Keyed x) (Session y) texts answers outstanding a = absurd a
-  all_sent sent sent_renewed one other (Keyed x) (Reconnecting y) texts answers outstanding a = absurd a
-  all_sent sent sent_renewed one other (Session x) (Keyed y) texts answers outstanding a = absurd a
-  all_sent sent sent_renewed one other (Session x) (Reconnecting y) texts answers outstanding a = absurd a
-  all_sent sent sent_renewed one other (Reconnecting x) (Keyed y) texts answers outstanding a = absurd a
-  all_sent sent sent_renewed one other (Reconnecting x) (Session y) texts answers outstanding a = absurd a
+  all_sent sent sent_renewed one other _ _ texts answers outstanding a = absurd a

@@ -1,0 +1,8 @@
+use Rattle.std.proofs.Common.{◌∙◌, append_assoc, append-nil}
+use Rattle.std.proofs.lemmas.Result.{IfOk-weaker}
+use Rattle.operations.proofs.audits.row_line.Goals as goal
+
+pub returns : goal.returns
+returns c =
+    rw c.if-passes.false
+    (IfOk-weaker c.format.result _ _ (λ text is. is ∙ simp (append_assoc, append-nil)) c.format.ensures.ok)
