@@ -1,11 +1,11 @@
 -- A command with one more option or subcommand.
 use Rattle.std.proofs.Common.{◌≡◌, ◌∙◌, ◌&&◌, ◌+◌, ◌<◌, ℕ, List, [], ◌∷◌, ◌++◌, Bool, true, false, not, refl, sym, ap}
-use Rattle.std.proofs.Common.{drop, get_or, length, map, take}
+use Rattle.std.proofs.Common.{get_or, length, map, take}
 use Rattle.std.proofs.lemmas.List.{map-append, take_more}
 use Rattle.clap.specs.Words.{AddsSubcommand, App, Text, app_of, new_app, with_rule, with_subcommand}
 use Rattle.clap.specs.declared.builder.command.Command.{Command}
-use Rattle.command_line.specs.Options.{bare_command, counter_command, subcommands, with_rules, with_subcommands}
-use Rattle.command_line.specs.Table.{app_in, rule_in}
+use Rattle.command_line.specs.Options.{with_rules, with_subcommands}
+use Rattle.command_line.specs.auxiliary.Table.{app_in, rule_in}
 use Rattle.command_line.specs.declared.options.OptionRow.{OptionRow}
 use Rattle.command_line.specs.declared.table.SubcommandRow.{SubcommandRow}
 
@@ -26,9 +26,7 @@ adds_option name rows i d old new inside is more =
 
 third_is_false : (a b c d : Bool) → (a && (b && (not c && d))) ≡ true → c ≡ false
 third_is_false true true false d h = refl
-third_is_false true true true d h = cc
-third_is_false true false c d h = cc
-third_is_false false b c d h = cc
+third_is_false _ _ _ d h = cc
 
 -- a plain command has no option that is its subcommands' too
 adds_plain : (below : App) (old new sub : Command) → app_of sub ≡ below → below.top.is_plain ≡ true
@@ -55,12 +53,3 @@ adds_subcommand bare rows i d old new inside is more =
     ∙ ap (λ app. with_subcommand app (app_in (get_or rows i d)).top) is
     ∙ with_one_more (map app_in (take i rows)) (app_in (get_or rows i d)) bare
     ∙ ap (λ subs. with_subcommands subs bare) (map-more app_in rows i d inside)
-
--- the subcommands of two tables are all of them
-pub adds_tables : (first last : List App) (old new : Command) → app_of old ≡ with_subcommands first bare_command
-    → app_of new ≡ with_subcommands last (app_of old) → first ≡ take 6 subcommands → last ≡ drop 6 subcommands
-    → app_of new ≡ counter_command
-adds_tables first last old new is more is_first is_last =
-    more
-    ∙ ap (with_subcommands last) (is ∙ ap (λ subs. with_subcommands subs bare_command) is_first)
-    ∙ ap (λ subs. with_subcommands subs (with_subcommands (take 6 subcommands) bare_command)) is_last

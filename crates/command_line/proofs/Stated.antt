@@ -1,18 +1,11 @@
 -- What a parse found, as the values that the words state.
-use Rattle.std.proofs.Common.{◌≡◌, ◌∙◌, ◌<◌, ◌≤◌, ◌^◌, ℕ, List, Bor, Result, Option, Ok, Err, Some, None, ap}
-use Rattle.std.proofs.Common.{sym, refl, arith}
+use Rattle.std.proofs.Common.{◌≡◌, ◌∙◌, ◌<◌, ◌^◌, ℕ, List, Bor, Result, Option, Ok, Err, Some, None, ap, sym, refl}
 use Rattle.std.specs.Prelude.{option_map, unwrap_or}
 use Rattle.std.specs.Str.Parse.{ParsesUnsigned, digits_value, without_leading_plus}
 use Rattle.clap.specs.Words.{ReadsOne, Row, Text, first_of, first_value, one_text, rows_of}
 use Rattle.clap.specs.declared.parser.matches.Found.{Found}
 use Rattle.clap.proofs.WalkLemmas.{first_value-rows, one_text-rows}
 use Rattle.command_line.specs.Words.{StatesNumber}
-
-pub reads_text : (f : Found) (name : Text) (result : Option (Bor Text)) (text : Bor Text)
-    → option_map (λ s. s.now) result ≡ first_value f name → result ≡ Some text
-    → first_of name (rows_of f) ≡ Some text.now
-reads_text f name result text same is =
-    sym (first_value-rows f name) ∙ sym same ∙ ap (option_map (λ (s : Bor Text). s.now)) is
 
 pub reads_number : {E : Type 0} (G : List ℕ → Result ℕ E → Type 0) (f : Found) (name : Text) (result : Option ℕ)
     (number : ℕ)
@@ -54,23 +47,3 @@ one_number rows name a b first second =
     let same : first.text ≡ second.text =
     ap (λ (o : Option Text). unwrap_or o first.text) (sym first.given ∙ second.given) in
     first.value ∙ ap (λ t. digits_value 10 (without_leading_plus t)) same ∙ sym second.value
-
-pub unread_text : (f : Found) (name : Text) (result : Option (Bor Text)) (text : Text)
-    → option_map (λ s. s.now) result ≡ first_value f name → result ≡ None → first_of name (rows_of f) ≡ Some text → ⊥
-unread_text f name result text same is given =
-    let missing : first_of name (rows_of f) ≡ None = sym (first_value-rows f name) ∙ sym same
-    ∙ ap (option_map (λ (s : Bor Text). s.now)) is in
-    cc
-
--- the bounds of numbers, over a number alone: a proof by arithmetic reads all that is known where it stands
-
-pub zero_least : (n : ℕ) → 0 ≤ n
-zero_least n = omega arith
-
--- of 63 bits
-pub whole_most : (n : ℕ) → n < 2 ^ 63 → n ≤ 9223372036854775807
-whole_most n below = omega arith
-
--- of 32 bits
-pub connections_most : (n : ℕ) → n < 2 ^ 32 → n ≤ 4294967295
-connections_most n below = omega arith

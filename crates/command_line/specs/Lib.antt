@@ -1,3 +1,3 @@
 pub mod Options
-pub mod Table
 pub mod Words
+pub mod auxiliary

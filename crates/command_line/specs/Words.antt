@@ -2,7 +2,6 @@
 -- finds in them.
 use Rattle.std.specs.Prelude.{◌≡◌, ◌≢◌, ◌⊎◌, ◌&&◌, ◌||◌, ⊤, ℕ, Bool, true, false, not, List, [], Option, Some, None}
 use Rattle.std.specs.Prelude.{codes, is_some, option_map, map, String, string_bytes}
-use Rattle.std.specs.Borrow.{Bor}
 use Rattle.std.specs.declared.alloc.Global.{Global}
 use Rattle.std.specs.Option.{option_map_or}
 use Rattle.std.specs.Str.{bytes_eq}
@@ -170,11 +169,6 @@ IsUnasked name rows = (word : Word) → IsAsked name rows word → ⊥
 abbrev pub tells_one_signer : Bool → Bool → Bool → Bool
 tells_one_signer key address algorithm =
     (key && (not address && not algorithm)) || (not key && (address && algorithm))
-
--- the signer that these values tell
-abbrev pub IsTold : (key address algorithm : Option (Bor Text)) → SignerWords → Type 0
-IsTold key address algorithm (Key path) = (key ≡ Some path) × (address ≡ None) × (algorithm ≡ None)
-IsTold key address algorithm (Session at by) = (key ≡ None) × (address ≡ Some at) × (algorithm ≡ Some by)
 
 abbrev pub has_one_signer : List Row → Bool
 has_one_signer rows =

@@ -2,7 +2,7 @@
 ghost use Rattle.std.specs.Prelude.{◌≡◌, map, IfOk};
 ghost use Rattle.clap.specs.Words.{app_of, with_rule, with_subcommand};
 ghost use Rattle.command_line.specs.Options.{bare_command, counter_command, with_subcommands};
-ghost use Rattle.command_line.specs.Table.{app_in, rule_in};
+ghost use Rattle.command_line.specs.auxiliary.Table.{app_in, rule_in};
 
 use crate::options::OptionRow;
 use crate::table::{SubcommandRow, first_rows, last_rows};

@@ -1,12 +1,13 @@
 //! What the words ask for, by what `clap` finds in them.
 ghost use Rattle.std.specs.Prelude.{◌≡◌, ◌≤◌, ◌⊎◌, ℕ, List, None, Some, IfOk, IfErr, IfSome, IsNone, codes, false};
-ghost use Rattle.std.specs.Prelude.{is_some, true};
-ghost use Rattle.clap.specs.Words.{Row, Text, FailsBy, HasKind, fault_of, first_of, found_of, kind_of, rows_of, subcommand_of};
-ghost use Rattle.clap.specs.Words.{subcommand_rows_of};
+ghost use Rattle.std.specs.Prelude.{is_some, option_map, true};
+ghost use Rattle.clap.specs.Words.{Row, Text, FailsBy, HasKind, fault_of, first_of, found_of, kind_of, rows_of};
+ghost use Rattle.clap.specs.Words.{subcommand_of, subcommand_rows_of};
 ghost use Rattle.clap.specs.declared.error.kind.ErrorKind.TheVariants.{OutOfMemory};
 ghost use Rattle.command_line.specs.Options.{counter_command};
 ghost use Rattle.command_line.specs.Words.{AskNothing, Asks, IsAsked, IsOwnKind, IsRefusal, IsShown, IsUnasked};
-ghost use Rattle.command_line.specs.Words.{MixSigners, StatesDesk, StatesFloor, StatesNumber, needs_signer, texts_of};
+ghost use Rattle.command_line.specs.Words.{MixSigners, StatesDesk, StatesFlag, StatesFloor, StatesNumber};
+ghost use Rattle.command_line.specs.Words.{needs_signer, texts_of};
 
 use crate::command::command;
 use crate::options::Numbers;
@@ -78,8 +79,8 @@ fn asked_in<'a>(alloc: Global, matches: &ArgMatches<'a>) -> Result<Word<'a>, Err
     }
 }
 
-/// What `clap` shows on standard output is help or the version, and anything else is a mistake. With `--long` the version
-/// comes with the logic.
+/// What `clap` shows on standard output is help or the version, and anything else is a mistake. With `--long` the
+/// version comes with the logic.
 fn refusal_of(alloc: Global, words: &[String], error: &Error) -> Result<WordsRefusal, AllocError>
     ensures { IfOk result (IsShown (kind_of error.now)) }
 {
@@ -127,32 +128,34 @@ fn word_named<'a>(name: &str, words: &ArgMatches<'a>) -> Option<Word<'a>>
         "continue" => continue_word(words),
         "calibrate" => calibrate_word(words),
         "hold" => hold_word(words),
-        "audit" => audit_word(words),
-        "explain" => explain_word(words),
-        _ => signed_word_named(name, words),
-    }
-}
-
-/// The word of this name, where its subcommand needs a signer.
-fn signed_word_named<'a>(name: &str, words: &ArgMatches<'a>) -> Option<Word<'a>>
-    ensures found { IfSome result (IsAsked name.now (rows_of (found_of words.now))) }
-    ensures none { IsNone result → needs_signer name.now ≡ true → IsUnasked name.now (rows_of (found_of words.now)) }
-{
-    match name {
         "answer" => answer_word(words),
         "exchange" => exchange_word(words),
         "serve" => serve_word(words),
+        "audit" => audit_word(words),
+        "explain" => explain_word(words),
         _ => None,
     }
+}
+
+/// The value of the option of this name.
+pub(crate) fn text<'a>(matches: &ArgMatches<'a>, name: &str) -> Option<&'a str>
+    ensures { first_of name.now (rows_of (found_of matches.now)) ≡ option_map (λ s. s.now) result }
+{
+    matches.get_str(name)
+}
+
+/// Whether the flag of this name is there.
+fn flag(matches: &ArgMatches<'_>, name: &str) -> bool
+    ensures { StatesFlag (rows_of (found_of matches.now)) name.now result }
+{
+    matches.get_flag(name)
 }
 
 fn check_word<'a>(matches: &ArgMatches<'a>) -> Option<Word<'a>>
     ensures found { IfSome result (IsAsked (codes "check") (rows_of (found_of matches.now))) }
     ensures none { IsNone result → IsUnasked (codes "check") (rows_of (found_of matches.now)) }
 {
-    let Some(rules) = matches.get_str("rules") else {
-        return None;
-    };
+    let rules = text(matches, "rules")?;
     Some(Word::Check(CheckWords { rules }))
 }
 
@@ -160,9 +163,7 @@ fn init_word<'a>(matches: &ArgMatches<'a>) -> Option<Word<'a>>
     ensures found { IfSome result (IsAsked (codes "init") (rows_of (found_of matches.now))) }
     ensures none { IsNone result → IsUnasked (codes "init") (rows_of (found_of matches.now)) }
 {
-    let Some(db) = matches.get_str("db") else {
-        return None;
-    };
+    let db = text(matches, "db")?;
     Some(Word::Init(InitWords { db }))
 }
 
@@ -170,9 +171,7 @@ fn migrate_word<'a>(matches: &ArgMatches<'a>) -> Option<Word<'a>>
     ensures found { IfSome result (IsAsked (codes "migrate") (rows_of (found_of matches.now))) }
     ensures none { IsNone result → IsUnasked (codes "migrate") (rows_of (found_of matches.now)) }
 {
-    let Some(db) = matches.get_str("db") else {
-        return None;
-    };
+    let db = text(matches, "db")?;
     Some(Word::Migrate(MigrateWords { db }))
 }
 
@@ -180,12 +179,8 @@ fn continue_word<'a>(matches: &ArgMatches<'a>) -> Option<Word<'a>>
     ensures found { IfSome result (IsAsked (codes "continue") (rows_of (found_of matches.now))) }
     ensures none { IsNone result → IsUnasked (codes "continue") (rows_of (found_of matches.now)) }
 {
-    let Some(from) = matches.get_str("from") else {
-        return None;
-    };
-    let Some(db) = matches.get_str("db") else {
-        return None;
-    };
+    let from = text(matches, "from")?;
+    let db = text(matches, "db")?;
     if states_no_floor(matches) {
         return Some(Word::Continue(ContinueWords {
             from,
@@ -193,12 +188,8 @@ fn continue_word<'a>(matches: &ArgMatches<'a>) -> Option<Word<'a>>
             floor: None,
         }));
     }
-    let Some(above) = number(matches, "above", SERIALS) else {
-        return None;
-    };
-    let Some(moment) = number(matches, "moment", MOMENTS) else {
-        return None;
-    };
+    let above = number(matches, "above", SERIALS)?;
+    let moment = number(matches, "moment", MOMENTS)?;
     Some(Word::Continue(ContinueWords {
         from,
         db,
@@ -211,37 +202,22 @@ fn states_no_floor(matches: &ArgMatches<'_>) -> bool
     ensures stated { result ≡ true → StatesFloor (rows_of (found_of matches.now)) None }
     ensures other { result ≡ false → StatesFloor (rows_of (found_of matches.now)) None → ⊥ }
 {
-    !has_option(matches, "above") && !has_option(matches, "moment")
-}
-
-/// Whether the option of this name stands there.
-fn has_option(matches: &ArgMatches<'_>, name: &str) -> bool
-    ensures { result ≡ is_some (first_of name.now (rows_of (found_of matches.now))) }
-{
-    matches.get_str(name).is_some()
+    text(matches, "above").is_none() && text(matches, "moment").is_none()
 }
 
 fn calibrate_word<'a>(matches: &ArgMatches<'a>) -> Option<Word<'a>>
     ensures found { IfSome result (IsAsked (codes "calibrate") (rows_of (found_of matches.now))) }
     ensures none { IsNone result → IsUnasked (codes "calibrate") (rows_of (found_of matches.now)) }
 {
-    let Some(db) = matches.get_str("db") else {
-        return None;
-    };
-    let Some(reading) = number(matches, "reading", WHOLE_NUMBERS) else {
-        return None;
-    };
-    let Some(offset) = number(matches, "offset", WHOLE_NUMBERS) else {
-        return None;
-    };
-    let Some(uncertainty) = number(matches, "uncertainty", UNCERTAINTIES) else {
-        return None;
-    };
+    let db = text(matches, "db")?;
+    let reading = number(matches, "reading", WHOLE_NUMBERS)?;
+    let offset = number(matches, "offset", WHOLE_NUMBERS)?;
+    let uncertainty = number(matches, "uncertainty", UNCERTAINTIES)?;
     Some(Word::Calibrate(CalibrateWords {
         db,
         reading,
         offset,
-        behind: matches.get_flag("behind"),
+        behind: flag(matches, "behind"),
         uncertainty,
     }))
 }
@@ -250,15 +226,9 @@ fn hold_word<'a>(matches: &ArgMatches<'a>) -> Option<Word<'a>>
     ensures found { IfSome result (IsAsked (codes "hold") (rows_of (found_of matches.now))) }
     ensures none { IsNone result → IsUnasked (codes "hold") (rows_of (found_of matches.now)) }
 {
-    let Some(db) = matches.get_str("db") else {
-        return None;
-    };
-    let Some(from) = number(matches, "from", WHOLE_NUMBERS) else {
-        return None;
-    };
-    let Some(to) = number(matches, "to", WHOLE_NUMBERS) else {
-        return None;
-    };
+    let db = text(matches, "db")?;
+    let from = number(matches, "from", WHOLE_NUMBERS)?;
+    let to = number(matches, "to", WHOLE_NUMBERS)?;
     Some(Word::Hold(HoldWords { db, from, to }))
 }
 
@@ -266,28 +236,18 @@ fn tst_word<'a>(matches: &ArgMatches<'a>) -> Option<Word<'a>>
     ensures found { IfSome result (IsAsked (codes "tst") (rows_of (found_of matches.now))) }
     ensures none { IsNone result → IsUnasked (codes "tst") (rows_of (found_of matches.now)) }
 {
-    let Some(policy) = matches.get_str("policy") else {
-        return None;
-    };
-    let Some(moment) = number(matches, "moment", MOMENTS) else {
-        return None;
-    };
-    let Some(digits) = number(matches, "digits", DIGITS) else {
-        return None;
-    };
-    let Some(serial) = number(matches, "serial", SERIALS) else {
-        return None;
-    };
-    let Some(accuracy) = number(matches, "accuracy", ACCURACIES) else {
-        return None;
-    };
+    let policy = text(matches, "policy")?;
+    let moment = number(matches, "moment", MOMENTS)?;
+    let digits = number(matches, "digits", DIGITS)?;
+    let serial = number(matches, "serial", SERIALS)?;
+    let accuracy = number(matches, "accuracy", ACCURACIES)?;
     Some(Word::Tst(TstWords {
         policy,
         moment,
         digits: digits as u8,
         serial,
         accuracy: accuracy as u32,
-        ordering: matches.get_flag("ordering"),
+        ordering: flag(matches, "ordering"),
     }))
 }
 
@@ -295,23 +255,15 @@ fn desk_words<'a>(matches: &ArgMatches<'a>) -> Option<DeskWords<'a>>
     ensures found { IfSome result (StatesDesk (rows_of (found_of matches.now))) }
     ensures none { IsNone result → (words : DeskWords) → StatesDesk (rows_of (found_of matches.now)) words → ⊥ }
 {
-    let Some(db) = matches.get_str("db") else {
-        return None;
-    };
-    let Some(rules) = matches.get_str("rules") else {
-        return None;
-    };
-    let Some(certificate) = matches.get_str("certificate") else {
-        return None;
-    };
-    let Some(signer) = signer_words(matches) else {
-        return None;
-    };
+    let db = text(matches, "db")?;
+    let rules = text(matches, "rules")?;
+    let certificate = text(matches, "certificate")?;
+    let signer = signer_words(matches)?;
     Some(DeskWords {
         db,
         rules,
         certificate,
-        chain: matches.get_str("chain"),
+        chain: text(matches, "chain"),
         signer,
     })
 }
@@ -320,16 +272,12 @@ fn answer_word<'a>(matches: &ArgMatches<'a>) -> Option<Word<'a>>
     ensures found { IfSome result (IsAsked (codes "answer") (rows_of (found_of matches.now))) }
     ensures none { IsNone result → IsUnasked (codes "answer") (rows_of (found_of matches.now)) }
 {
-    let Some(desk) = desk_words(matches) else {
-        return None;
-    };
-    let Some(reading) = number(matches, "reading", WHOLE_NUMBERS) else {
-        return None;
-    };
+    let desk = desk_words(matches)?;
+    let reading = number(matches, "reading", WHOLE_NUMBERS)?;
     Some(Word::Answer(AnswerWords {
         desk,
         reading,
-        key: matches.get_str("key"),
+        key: text(matches, "key"),
     }))
 }
 
@@ -337,12 +285,8 @@ fn exchange_word<'a>(matches: &ArgMatches<'a>) -> Option<Word<'a>>
     ensures found { IfSome result (IsAsked (codes "exchange") (rows_of (found_of matches.now))) }
     ensures none { IsNone result → IsUnasked (codes "exchange") (rows_of (found_of matches.now)) }
 {
-    let Some(desk) = desk_words(matches) else {
-        return None;
-    };
-    let Some(reading) = number(matches, "reading", WHOLE_NUMBERS) else {
-        return None;
-    };
+    let desk = desk_words(matches)?;
+    let reading = number(matches, "reading", WHOLE_NUMBERS)?;
     Some(Word::Exchange(ExchangeWords { desk, reading }))
 }
 
@@ -350,20 +294,14 @@ fn serve_word<'a>(matches: &ArgMatches<'a>) -> Option<Word<'a>>
     ensures found { IfSome result (IsAsked (codes "serve") (rows_of (found_of matches.now))) }
     ensures none { IsNone result → IsUnasked (codes "serve") (rows_of (found_of matches.now)) }
 {
-    let Some(desk) = desk_words(matches) else {
-        return None;
-    };
-    let Some(listen) = matches.get_str("listen") else {
-        return None;
-    };
-    let Some(connections) = number(matches, "connections", CONNECTIONS) else {
-        return None;
-    };
+    let desk = desk_words(matches)?;
+    let listen = text(matches, "listen")?;
+    let connections = number(matches, "connections", CONNECTIONS)?;
     Some(Word::Serve(ServeWords {
         desk,
         listen,
         connections: connections as u32,
-        tell: matches.get_flag("tell"),
+        tell: flag(matches, "tell"),
     }))
 }
 
@@ -371,29 +309,19 @@ fn audit_word<'a>(matches: &ArgMatches<'a>) -> Option<Word<'a>>
     ensures found { IfSome result (IsAsked (codes "audit") (rows_of (found_of matches.now))) }
     ensures none { IsNone result → IsUnasked (codes "audit") (rows_of (found_of matches.now)) }
 {
-    let Some(db) = matches.get_str("db") else {
-        return None;
-    };
-    let Some(rules) = matches.get_str("rules") else {
-        return None;
-    };
-    let Some(account) = matches.get_str("account") else {
-        return None;
-    };
-    let Some(from) = number(matches, "from", WHOLE_NUMBERS) else {
-        return None;
-    };
-    let Some(to) = number(matches, "to", WHOLE_NUMBERS) else {
-        return None;
-    };
+    let db = text(matches, "db")?;
+    let rules = text(matches, "rules")?;
+    let account = text(matches, "account")?;
+    let from = number(matches, "from", WHOLE_NUMBERS)?;
+    let to = number(matches, "to", WHOLE_NUMBERS)?;
     Some(Word::Audit(AuditWords {
         db,
         rules,
         account,
         from,
         to,
-        check: matches.get_flag("check"),
-        judge: matches.get_flag("judge"),
+        check: flag(matches, "check"),
+        judge: flag(matches, "judge"),
     }))
 }
 
@@ -401,15 +329,9 @@ fn explain_word<'a>(matches: &ArgMatches<'a>) -> Option<Word<'a>>
     ensures found { IfSome result (IsAsked (codes "explain") (rows_of (found_of matches.now))) }
     ensures none { IsNone result → IsUnasked (codes "explain") (rows_of (found_of matches.now)) }
 {
-    let Some(db) = matches.get_str("db") else {
-        return None;
-    };
-    let Some(rules) = matches.get_str("rules") else {
-        return None;
-    };
-    let Some(serial) = number(matches, "serial", SERIALS) else {
-        return None;
-    };
+    let db = text(matches, "db")?;
+    let rules = text(matches, "rules")?;
+    let serial = number(matches, "serial", SERIALS)?;
     Some(Word::Explain(ExplainWords { db, rules, serial }))
 }
 

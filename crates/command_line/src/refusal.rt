@@ -1,8 +1,3 @@
-ghost use Rattle.std.specs.Prelude.{◌≡◌};
-ghost use Rattle.command_line.specs.declared.refusal.WordsRefusal.TheVariants.{Memory};
-
-use std::alloc::AllocError;
-
 /// Why there is nothing to do.
 #[derive(Drop)]
 pub enum WordsRefusal {
@@ -12,12 +7,4 @@ pub enum WordsRefusal {
     Mistake(String),
     /// Memory ran out.
     Memory,
-}
-
-impl From<AllocError> for WordsRefusal {
-    ghost from_gives = { λ _ refusal. refusal ≡ Memory };
-
-    fn from(_e: AllocError) -> WordsRefusal {
-        WordsRefusal::Memory
-    }
 }

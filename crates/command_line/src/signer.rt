@@ -1,51 +1,29 @@
 //! Who signs, by what `clap` finds in the words.
-ghost use Rattle.std.specs.Prelude.{◌≡◌, false, is_some, IfOk, IfSome, IsNone};
+ghost use Rattle.std.specs.Prelude.{◌≡◌, false, IfOk, IfSome, IsNone};
 ghost use Rattle.clap.specs.Words.{found_of, kind_of, rows_of};
-ghost use Rattle.command_line.specs.Words.{IsOwnKind, IsTold, StatesSigner, has_one_signer, tells_one_signer};
+ghost use Rattle.command_line.specs.Words.{IsOwnKind, StatesSigner, has_one_signer};
 
 use crate::command::{command, subcommand};
+use crate::parse::text;
 use crate::table::{SubcommandRow, first_rows, last_rows};
 use crate::words::SignerWords;
 use clap::error::ErrorKind;
 use clap::{ArgMatches, Command, Error};
 use std::alloc::{AllocError, Global};
 
-/// Who signs; `None` where the options tell no signer, or mix two up.
+/// Who signs: a key tells it alone, or an address and an algorithm together. `None` where the options tell no signer,
+/// or mix two up.
 pub fn signer_words<'a>(matches: &ArgMatches<'a>) -> Option<SignerWords<'a>>
     ensures found { IfSome result (StatesSigner (rows_of (found_of matches.now))) }
     ensures none { IsNone result → has_one_signer (rows_of (found_of matches.now)) ≡ false }
 {
-    let key = matches.get_str("signing-key");
-    let address = matches.get_str("signer");
-    let algorithm = matches.get_str("signer-algorithm");
-    one_signer(key, address, algorithm)
-}
-
-/// The signer that a key tells alone, or an address and an algorithm together.
-fn one_signer<'a>(
-    key: Option<&'a str>,
-    address: Option<&'a str>,
-    algorithm: Option<&'a str>,
-) -> Option<SignerWords<'a>>
-    ensures found { IfSome result (IsTold key.entry address.entry algorithm.entry) }
-    ensures none { IsNone result
-        → tells_one_signer (is_some key.entry) (is_some address.entry) (is_some algorithm.entry) ≡ false }
-{
-    match key {
-        Some(path) => match address {
-            Some(_) => None,
-            None => match algorithm {
-                Some(_) => None,
-                None => Some(SignerWords::Key(path)),
-            },
-        },
-        None => match address {
-            Some(address) => match algorithm {
-                Some(algorithm) => Some(SignerWords::Session { address, algorithm }),
-                None => None,
-            },
-            None => None,
-        },
+    let key = text(matches, "signing-key");
+    let address = text(matches, "signer");
+    let algorithm = text(matches, "signer-algorithm");
+    match (key, address, algorithm) {
+        (Some(path), None, None) => Some(SignerWords::Key(path)),
+        (None, Some(address), Some(algorithm)) => Some(SignerWords::Session { address, algorithm }),
+        _ => None,
     }
 }
 

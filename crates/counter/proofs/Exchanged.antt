@@ -1,6 +1,5 @@
 -- What `exchange` writes, out of what the operation says of it.
-use Rattle.std.proofs.Common.{◌≡◌, ◌⊎◌, ◌∙◌, ℕ, ℤ, List, [], Option, length, sym, subst}
-use Rattle.std.proofs.Common.{inl, inr}
+use Rattle.std.proofs.Common.{◌≡◌, ◌⊎◌, ◌∙◌, ℕ, ℤ, List, [], Option, length, sym, subst, inl, inr}
 use Rattle.std.proofs.Math.Seq.{take-length}
 use Rattle.std.specs.Io.KnownBytes.{Appends, Keeps}
 use Rattle.policy.specs.Record.{PolicyValue}
@@ -66,8 +65,7 @@ module _ (policy : PolicyValue) (reading : ℤ) (old new before : Option (List �
       let P : Option (List ℕ) → Type 0 = λ x. WritesAnswer policy reading old new (Appends before x) in
       subst P (sym end) (writes_nothing mid told)
   ended mid after (Answered status) told end = writes_all mid after status told end
-  ended mid after ReadFailed told end = absurd end
-  ended mid after (WriteFailed status sent) told end = absurd end
+  ended mid after _ told end = absurd end
 
   -- and where it is stopped
   pub stopped : (mid after : Option (List ℕ)) (outcome : Served) (fault : Fault)

@@ -2,9 +2,9 @@
 use Rattle.std.proofs.Common.{◌≡◌, ◌⊎◌, ℕ, true, List, Option, Ok, Some, ap, inl, inr}
 use Rattle.std.specs.Io.KnownBytes.{Appends}
 use Rattle.audit.specs.Auditor.{IsAllowed}
+use Rattle.audit.specs.Extract.{lines_text}
 use Rattle.command_line.specs.declared.words.AuditWords.{AuditWords}
 use Rattle.operations.specs.Audits as operation
-use Rattle.operations.specs.Audits.{extract_of}
 use Rattle.operations.specs.declared.audits.AuditFault.{AuditFault}
 use Rattle.policy.specs.LookUp.{account_named}
 use Rattle.policy.specs.Meaning.{meaning_of}
@@ -38,7 +38,7 @@ module _ {S F : Type 0} (files : Source S F) (words : AuditWords) (policy : Poli
     (read : (text : List ℕ) × ReadsText files words.rules.now (Ok text) × (meaning_of text ≡ Ok policy))
     (named : account_named policy words.account.now ≡ Some account) where
   cuts : (IsWritten : List ℕ → Type 0) (stamps : List StampRow) → IsAllowed policy account words.from words.to
-      → IsWritten (extract_of stamps) → CutsExtract files words IsWritten
+      → IsWritten (lines_text stamps) → CutsExtract files words IsWritten
   cuts IsWritten stamps allowed written = record {
     rules = read.0;
     rules_read = read.1;

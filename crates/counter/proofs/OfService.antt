@@ -6,7 +6,7 @@ use Rattle.desk.specs.Command.{Command, Stamp, Answer}
 use Rattle.desk.specs.MachineRuns.{Told}
 use Rattle.service.specs.Answers.{AnswerValue}
 use Rattle.service.specs.Reports.{IsBodyOf, IsRefusedBy, Seen, keeps_back, tells, wants}
-use Rattle.service.specs.Requests.{Report, Step, Extract, Status, OfAccount, OfReaders}
+use Rattle.service.specs.Requests.{Report, Step, Extract, OfAccount, OfReaders}
 use Rattle.service.specs.Served.{Turn, Reads, Takes, AreTaken, IsAnswerAlone, refuses, looks, wants_early, IsAnswer}
 use Rattle.service.specs.Served.{plainly, backwards, wants_lines, Writes, Extracts, Ends, Serves}
 use Rattle.service.specs.declared.refusal.Refusal.{Refusal}
@@ -28,17 +28,15 @@ module _ {W B X : Type 0} (g : Ghosts B) (signs : X → List ℕ → Result (Lis
       → IsTextOf t.desk.setting.file r body
   unfolding IsBodyOf
   text_of octets (Extract account from to) body told = told
-  text_of octets Status body told = tt
   text_of octets (OfAccount account) body told = (told.used, told.text)
-  text_of octets (OfReaders account number) body told = tt
+  text_of octets _ body told = tt
 
   refusal_of : (octets : Option ℕ) (r : Report) (f : Refusal) → IsRefusedBy g (seen octets) t.desk t.desk_after r f
       → IsRefusalOf t.desk.setting.file r f
   unfolding IsRefusedBy
   refusal_of octets (Extract account from to) f why = (why.fault, why.comes, why.tells)
-  refusal_of octets Status f why = why
-  refusal_of octets (OfAccount account) f why = why
   refusal_of octets (OfReaders account number) f why = why.1
+  refusal_of octets _ f why = why
 
   alone_explained : (a : AnswerValue) → IsAnswerAlone g signs count reading t a
       → IsAnswerFor t.desk.setting.file reading t.input t.input_after a
@@ -73,7 +71,6 @@ module _ {W B X : Type 0} (g : Ghosts B) (signs : X → List ℕ → Result (Lis
 
   written : (steps : List Told) (outcome : Served) → AreTaken g signs count reading t steps
       → Writes g signs count contents reading t steps outcome → Exchanged outcome
-  written steps served.Closed taken s = absurd s.sent
   written steps (served.Answered status) taken s =
       inl (record {
         answer = s.answer;
@@ -81,7 +78,6 @@ module _ {W B X : Type 0} (g : Ghosts B) (signs : X → List ℕ → Result (Lis
         status_told = s.sent.0;
         written = s.sent.1;
       })
-  written steps served.ReadFailed taken s = absurd s.sent
   written steps (served.WriteFailed status sent) taken s =
       inl (record {
         answer = s.answer;
@@ -89,6 +85,7 @@ module _ {W B X : Type 0} (g : Ghosts B) (signs : X → List ℕ → Result (Lis
         status_told = s.sent.0;
         written = s.sent.2;
       })
+  written steps _ taken s = absurd s.sent
 
   ended : (steps : List Told) (outcome : Served) → AreTaken g signs count reading t steps
       → Ends g signs count contents reading t steps outcome → Exchanged outcome

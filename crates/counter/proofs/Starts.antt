@@ -24,22 +24,17 @@ file_not_failed fault (inr (refusal, policy)) is = cc (policy, is)
 -- nor is a start
 pub start_not_failed : {A : Type 0} (refused : OperationFault) → IsStartingFault refused ⊎ IsUnheard refused
     → refused_as {A = A} (fault_of_operation refused) ≡ Err (Input Failed) → ⊥
-start_not_failed operation.Unreached refused is = cc is
-start_not_failed operation.Unheard refused is = cc is
-start_not_failed (operation.Store fault) refused is = cc is
-start_not_failed (operation.Desk fault) refused is = cc is
 start_not_failed operation.Clock (inl starting) is = starting
 start_not_failed operation.Clock (inr unheard) is = cc unheard
+start_not_failed _ refused is = cc is
 
 -- a start that is refused so is one of serving
 pub start_is_serving : (refused : OperationFault) → IsStartingFault refused ⊎ IsUnheard refused → IsServingFault refused
-start_is_serving operation.Unreached refused = tt
-start_is_serving operation.Unheard refused = tt
-start_is_serving operation.Clock refused = tt
 start_is_serving (operation.Store fault) (inl starting) = starting
 start_is_serving (operation.Store fault) (inr unheard) = absurd (cc unheard)
 start_is_serving (operation.Desk fault) (inl starting) = starting
 start_is_serving (operation.Desk fault) (inr unheard) = absurd (cc unheard)
+start_is_serving _ refused = tt
 
 abbrev IsTold : Result (Unit {0}) OperationFault → Result (Unit {0}) Fault → Type 0
 IsTold done result =
@@ -57,9 +52,5 @@ told_done (Err refused) result is = subst (λ r. OnOk r (IsDone (Err refused))) 
 -- and where a failure is told, the clock failed
 pub told_failed : (done : Result (Unit {0}) OperationFault) (result : Result (Unit {0}) Fault) → IsTold done result
     → result ≡ Err (Input Failed) → done ≡ Err operation.Clock
-told_failed (Ok answer) result is failed = absurd (cc (is, failed))
 told_failed (Err operation.Clock) result is failed = refl
-told_failed (Err operation.Unheard) result is failed = absurd (cc (is, failed))
-told_failed (Err operation.Unreached) result is failed = absurd (cc (is, failed))
-told_failed (Err (operation.Store fault)) result is failed = absurd (cc (is, failed))
-told_failed (Err (operation.Desk fault)) result is failed = absurd (cc (is, failed))
+told_failed _ result is failed = absurd (cc (is, failed))

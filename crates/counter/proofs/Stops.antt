@@ -1,13 +1,12 @@
 -- What is left where the exit status is 1, out of what a word leaves and the line that is then told.
-use Rattle.std.proofs.Common.{◌≡◌, ◌≢◌, ◌⊎◌, ℕ, true, false, List, Option, refl, subst, inl, inr}
+use Rattle.std.proofs.Common.{◌≡◌, ◌≢◌, ◌⊎◌, ℕ, false, List, Option, refl, subst, inl, inr}
 use Rattle.std.specs.Io.KnownBytes.{Appends}
 use Rattle.clap.specs.Words.{Text}
 use Rattle.command_line.specs.Words.{Asks}
 use Rattle.command_line.specs.declared.words.AuditWords.{AuditWords}
 use Rattle.command_line.specs.declared.words.ContinueWords.{ContinueWords}
 use Rattle.command_line.specs.declared.words.Word.{Word}
-use Rattle.command_line.specs.declared.words.Word.TheVariants.{Tst, Check, Init, Migrate, Continue, Calibrate, Hold}
-use Rattle.command_line.specs.declared.words.Word.TheVariants.{Answer, Exchange, Serve, Audit, Explain}
+use Rattle.command_line.specs.declared.words.Word.TheVariants.{Audit}
 use Rattle.connections.specs.Clock.{Reading}
 use Rattle.console.specs.Fault.{fault_line}
 use Rattle.console.specs.Files.{Source}
@@ -24,33 +23,16 @@ use Rattle.counter.specs.Extract as left
 use Rattle.counter.specs.Stops.{Stops, tells_fault, in_answer, in_extract, in_check, failing}
 use Rattle.counter.specs.Streams.{Extent, begun, streams_of}
 use Rattle.counter.specs.declared.run.Outcome.{Outcome}
-use Rattle.counter.specs.declared.run.Outcome.TheVariants.{Replied, Counted, Changed, Exchanged, Served, Extracted}
-use Rattle.counter.specs.declared.run.Outcome.TheVariants.{Failing, Explained}
+use Rattle.counter.specs.declared.run.Outcome.TheVariants.{Failing}
 
 -- a word is `audit` or another
 pub audit_or_not : (word : Word) → ((words : AuditWords) × (word ≡ Audit words)) ⊎ IsNoAudit word
 audit_or_not (Audit words) = inl (words, refl)
-audit_or_not (Tst words) = inr (λ other e. cc e)
-audit_or_not (Check words) = inr (λ other e. cc e)
-audit_or_not (Init words) = inr (λ other e. cc e)
-audit_or_not (Migrate words) = inr (λ other e. cc e)
-audit_or_not (Continue words) = inr (λ other e. cc e)
-audit_or_not (Calibrate words) = inr (λ other e. cc e)
-audit_or_not (Hold words) = inr (λ other e. cc e)
-audit_or_not (Answer words) = inr (λ other e. cc e)
-audit_or_not (Exchange words) = inr (λ other e. cc e)
-audit_or_not (Serve words) = inr (λ other e. cc e)
-audit_or_not (Explain words) = inr (λ other e. cc e)
+audit_or_not _ = inr (λ other e. cc e)
 
 pub failing_or_not : (outcome : Outcome) → (outcome ≡ Failing) ⊎ (outcome ≢ Failing)
 failing_or_not Failing = inl refl
-failing_or_not Replied = inr (λ e. cc e)
-failing_or_not Counted = inr (λ e. cc e)
-failing_or_not Changed = inr (λ e. cc e)
-failing_or_not Exchanged = inr (λ e. cc e)
-failing_or_not Served = inr (λ e. cc e)
-failing_or_not Extracted = inr (λ e. cc e)
-failing_or_not Explained = inr (λ e. cc e)
+failing_or_not _ = inr (λ e. cc e)
 
 module _ {D X C S F O : Type 0} (m : Machine D X C Reading) (IsContinued : ContinueWords → Type 0) (files : Source S F)
     (texts : List Text) (input input' : Option (List ℕ)) (contents : O → Option (List ℕ)) (out out' : O)
@@ -60,17 +42,7 @@ module _ {D X C S F O : Type 0} (m : Machine D X C Reading) (IsContinued : Conti
       → Does m IsContinued files (streams_of input input' contents out out' old mid) word extent
       → Does m IsContinued files (streams_of input input' contents out out' old new) word extent
   still_does mid new extent (Audit words) none it = absurd (none words refl)
-  still_does mid new extent (Tst words) none it = it
-  still_does mid new extent (Check words) none it = it
-  still_does mid new extent (Init words) none it = it
-  still_does mid new extent (Migrate words) none it = it
-  still_does mid new extent (Continue words) none it = it
-  still_does mid new extent (Calibrate words) none it = it
-  still_does mid new extent (Hold words) none it = it
-  still_does mid new extent (Answer words) none it = it
-  still_does mid new extent (Exchange words) none it = it
-  still_does mid new extent (Serve words) none it = it
-  still_does mid new extent (Explain words) none it = it
+  still_does mid new extent _ none it = it
 
   module _ (word : Word) (asks : Asks texts word) where
     asks_audit : (words : AuditWords) → word ≡ Audit words → Asks texts (Audit words)

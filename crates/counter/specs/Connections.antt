@@ -32,9 +32,7 @@ module _ {C B X : Type 0} (reads : C → Reading → C → Type 0) (g : Ghosts B
   ServesAt connections old new (Err operation.Clock) =
       (failed : ClockFailed) × ServesEach reads g signs count connections old new {A = Unit {0}} (Err failed)
   ServesAt connections old new (Err operation.Unheard) = new ≡ old
-  ServesAt connections old new (Err operation.Unreached) = ⊥
-  ServesAt connections old new (Err (operation.Store fault)) = ⊥
-  ServesAt connections old new (Err (operation.Desk fault)) = ⊥
+  ServesAt connections old new (Err _) = ⊥
 
 -- all connections that the words ask for, or fewer where that is told
 pub record ServesConnections {D X C S F : Type 0} (m : Machine D X C Reading) (files : Source S F) (words : ServeWords)

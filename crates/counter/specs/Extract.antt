@@ -2,6 +2,7 @@
 use Rattle.std.specs.Prelude.{◌≡◌, ◌⊎◌, ℕ, Bool, true, List, Option, Ok, Some}
 use Rattle.std.specs.Io.KnownBytes.{Appends}
 use Rattle.audit.specs.Auditor.{IsAllowed, IsMet}
+use Rattle.audit.specs.Extract.{lines_text}
 use Rattle.audit.specs.declared.fault.ExtractFault.{ExtractFault}
 use Rattle.audit.specs.declared.fault.ExtractFault.TheVariants as extract
 use Rattle.book.specs.Rows.{StampRow}
@@ -12,7 +13,7 @@ use Rattle.console.specs.Files.{ReadsText, Source}
 use Rattle.console.specs.Writes.{Begins}
 use Rattle.console.specs.declared.fault.Fault.{Fault}
 use Rattle.console.specs.declared.fault.Fault.TheVariants as program
-use Rattle.operations.specs.Audits.{Failure, extract_of, failing_lines}
+use Rattle.operations.specs.Audits.{Failure, failing_lines}
 use Rattle.operations.specs.Machine.{Machine}
 use Rattle.operations.specs.OverFiles.{IsAuditedOver}
 use Rattle.operations.specs.declared.audits.Inquiry.{Inquiry}
@@ -51,7 +52,7 @@ pub record Extracts {D X C S F : Type 0} (m : Machine D X C Reading) (files : So
   pub audited : IsAuditedOver m.disk m.held inquiry out out' err err' (Ok agree)
   -- what is written is the extract of stamps
   pub stamps : List StampRow
-  pub written : IsWritten (extract_of stamps)
+  pub written : IsWritten (lines_text stamps)
 
 -- An extract that is refused on the way, or whose check is. Which stamps the database holds no clause says then.
 pub record CutsExtract {S F : Type 0} (files : Source S F) (words : AuditWords) (IsWritten : List ℕ → Type 0)
@@ -67,7 +68,7 @@ pub record CutsExtract {S F : Type 0} (files : Source S F) (words : AuditWords) 
   pub allowed : IsAllowed policy account words.from words.to
   -- what is written is the extract of stamps
   pub stamps : List StampRow
-  pub written : IsWritten (extract_of stamps)
+  pub written : IsWritten (lines_text stamps)
 
 -- What a refused audit leaves: nothing is written; or a beginning of the extract is; or the whole of it, and lines of
 -- what failed before its check was refused.
@@ -77,4 +78,5 @@ pub data LeavesAudit {S F : Type 0} (files : Source S F) (words : AuditWords) (o
   in_extract : CutsExtract files words (Begins out out') → (refusal : ExtractFault) → IsMet refusal
       → fault ≡ program.Audit refusal → err' ≡ err → LeavesAudit files words out out' err err' fault
   in_check : CutsExtract files words (Appends out out') → IsExamining words → StopsCheck fault
-      → (failures : List Failure) → Appends err err' (failing_lines failures) → LeavesAudit files words out out' err err' fault
+      → (failures : List Failure) → Appends err err' (failing_lines failures)
+      → LeavesAudit files words out out' err err' fault

@@ -193,6 +193,7 @@ pub fn run_words<F: Start + Drop, S: FileSource + Paths + AllocGlobal, I: Read, 
 }
 
 /// Does what a word asks for.
+#[tactic(auto, using(console::proofs::Writes::appends_nothing))]
 fn run_word<F: Start + Drop, S: FileSource + Paths + AllocGlobal, I: Read, O: Write, E: Write>(
     host: Host<'_, F, S>,
     word: &Word<'_>,

@@ -12,6 +12,7 @@ use Rattle.tsp.specs.Rejection.{rejection}
 use Rattle.tsp.specs.declared.rule.Rule.{Rule}
 use Rattle.counter.specs.Fault.{fault_of_operation}
 use Rattle.counter.specs.Reply.{IsReplyOf, octets_of}
+use Rattle.counter.proofs.ReadDesks.{reads_desk}
 use Rattle.counter.proofs.Operations.{both, told}
 use Rattle.counter.proofs.answer.answer.Goals as goal
 
@@ -30,7 +31,7 @@ reply_octets (Rejected rejected) = refl
 pub returns : goal.returns
 returns g c =
     let files = c.in_ok-policy.field-0 in
-    let read = c.in_ok-policy.ensures.meant in
+    let read = c.in_ok-policy.ensures in
     let small : c.args.words.now.reading < 2 ^ 63 = search rules in
     let judged = rw (c.in_ok-account.ensures.found, c.as_slice.ensures.value) at c.answer.ensures.judged in
     let stepped = rw (
@@ -45,17 +46,7 @@ returns g c =
     IfOk-weaker c.answer_of.result _ _
     (λ reply it. IfSome_then (g.I.Read.remaining c.args.input.now) c.in_ok-query.ensures.found
     (λ text spelled. record {
-      read = record {
-        rules = read.0;
-        rules_read = read.1;
-        policy = policy_view files.policy;
-        meant = read.2;
-        identity = files.identity;
-        identity_read = c.in_ok-policy.ensures.identity;
-        alone = c.in_ok-policy.ensures.alone;
-        signing = files.signing;
-        signs = c.in_ok-policy.ensures.signs;
-      };
+      read = reads_desk _ c.args.words.now.desk files read.meant read.identity read.alone read.signs;
       known = c.in_ok-account.ensures.known;
       query = c.in_ok-query.query.items;
       spelled = spelled;

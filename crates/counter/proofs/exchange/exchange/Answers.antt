@@ -4,13 +4,14 @@ use Rattle.std.proofs.lemmas.Result.{IfErr-weaker, on_ok_weaker}
 use Rattle.policy.specs.View.{policy_view}
 use Rattle.counter.specs.Exchange.{HasStopped}
 use Rattle.counter.proofs.Exchanged.{ended, stopped}
+use Rattle.counter.proofs.ReadDesks.{reads_desk}
 use Rattle.counter.proofs.exchange.exchange.Goals as goal
 
 pub returns-in-Ok-clause-answered : goal.returns-in-Ok-clause-answered
 returns-in-Ok-clause-answered g c =
     let small : c.args.words.now.reading < 2 ^ 63 = search rules in
     let files = c.in_ok-policy.field-0 in
-    let read = c.in_ok-policy.ensures.meant in
+    let read = c.in_ok-policy.ensures in
     let answered = rw (to_z_pos w64 c.args.words.now.reading small) at c.in-Ok.ensures.answered in
     let served = rw (
       to_z_pos w64 c.args.words.now.reading small,
@@ -19,17 +20,7 @@ returns-in-Ok-clause-answered g c =
     in
     on_ok_weaker c.finish.result
     (λ end. record {
-      read = record {
-        rules = read.0;
-        rules_read = read.1;
-        policy = policy_view files.policy;
-        meant = read.2;
-        identity = files.identity;
-        identity_read = c.in_ok-policy.ensures.identity;
-        alone = c.in_ok-policy.ensures.alone;
-        signing = files.signing;
-        signs = c.in_ok-policy.ensures.signs;
-      };
+      read = reads_desk _ c.args.words.now.desk files read.meant read.identity read.alone read.signs;
       writes = ended (policy_view files.policy) (pos c.args.words.now.reading)
           (g.I.Read.remaining c.args.input.now) (g.I.Read.remaining c.perform_at_desk.new.input)
           (g.O.Write.contents c.args.output.now) (g.O.Write.contents c.perform_at_desk.new.output)
@@ -45,7 +36,7 @@ pub returns-in-Ok-clause-kept : goal.returns-in-Ok-clause-kept
 returns-in-Ok-clause-kept g c =
     let small : c.args.words.now.reading < 2 ^ 63 = search rules in
     let files = c.in_ok-policy.field-0 in
-    let read = c.in_ok-policy.ensures.meant in
+    let read = c.in_ok-policy.ensures in
     let answered = rw (to_z_pos w64 c.args.words.now.reading small) at c.in-Ok.ensures.answered in
     let served = rw (
       to_z_pos w64 c.args.words.now.reading small,
@@ -63,17 +54,7 @@ returns-in-Ok-clause-kept g c =
           inr (
             known.0,
             record {
-              read = record {
-                rules = read.0;
-                rules_read = read.1;
-                policy = policy_view files.policy;
-                meant = read.2;
-                identity = files.identity;
-                identity_read = c.in_ok-policy.ensures.identity;
-                alone = c.in_ok-policy.ensures.alone;
-                signing = files.signing;
-                signs = c.in_ok-policy.ensures.signs;
-              };
+              read = reads_desk _ c.args.words.now.desk files read.meant read.identity read.alone read.signs;
               writes = known.1;
               output_served = c.perform_at_desk.new.output;
               outcome = c.in-Ok.served;

@@ -2,29 +2,19 @@ use Rattle.std.proofs.Common.{◌∙◌, Err, ap, inl, inr, sym}
 use Rattle.std.proofs.lemmas.Result.{IfErr-weaker, err_from_is_err_and, on_ok_weaker}
 use Rattle.policy.specs.View.{policy_view}
 use Rattle.counter.specs.Fault.{fault_of_operation}
+use Rattle.counter.proofs.ReadDesks.{reads_desk}
 use Rattle.counter.proofs.Operations.{told_refusal}
-use Rattle.counter.proofs.Starts.{file_not_failed, start_is_serving, start_not_failed, told_done}
-use Rattle.counter.proofs.Starts.{told_failed}
+use Rattle.counter.proofs.Starts.{file_not_failed, start_is_serving, start_not_failed, told_done, told_failed}
 use Rattle.counter.proofs.server.serve.Goals as goal
 
 pub returns-in-Ok-clause-served : goal.returns-in-Ok-clause-served
 returns-in-Ok-clause-served g c =
     let files = c.in_ok-policy.field-0 in
-    let read = c.in_ok-policy.ensures.meant in
+    let read = c.in_ok-policy.ensures in
     let moved = rw c.in_ok-policy.ensures.algorithm at c.in-Ok.ensures.moved in
     on_ok_weaker c.answer_of.result
     (λ done. record {
-      read = record {
-        rules = read.0;
-        rules_read = read.1;
-        policy = policy_view files.policy;
-        meant = read.2;
-        identity = files.identity;
-        identity_read = c.in_ok-policy.ensures.identity;
-        alone = c.in_ok-policy.ensures.alone;
-        signing = files.signing;
-        signs = c.in_ok-policy.ensures.signs;
-      };
+      read = reads_desk _ c.args.words.now.desk files read.meant read.identity read.alone read.signs;
       served = rw done at moved;
     })
     (told_done c.in-Ok.done c.answer_of.result c.answer_of.ensures)
@@ -32,21 +22,11 @@ returns-in-Ok-clause-served g c =
 pub returns-in-Ok-clause-stopped : goal.returns-in-Ok-clause-stopped
 returns-in-Ok-clause-stopped g c =
     let files = c.in_ok-policy.field-0 in
-    let read = c.in_ok-policy.ensures.meant in
+    let read = c.in_ok-policy.ensures in
     λ failed.
     let stopped = told_failed c.in-Ok.done c.answer_of.result c.answer_of.ensures failed in
     record {
-      read = record {
-        rules = read.0;
-        rules_read = read.1;
-        policy = policy_view files.policy;
-        meant = read.2;
-        identity = files.identity;
-        identity_read = c.in_ok-policy.ensures.identity;
-        alone = c.in_ok-policy.ensures.alone;
-        signing = files.signing;
-        signs = c.in_ok-policy.ensures.signs;
-      };
+      read = reads_desk _ c.args.words.now.desk files read.meant read.identity read.alone read.signs;
       served = rw (stopped, c.in_ok-policy.ensures.algorithm) at c.in-Ok.ensures.moved;
     }
 

@@ -13,9 +13,8 @@ use Rattle.command_line.specs.declared.options.Value.TheVariants.{Text, Number, 
 use Rattle.command_line.specs.declared.table.SubcommandRow.{SubcommandRow}
 
 abbrev pub action_in : Value → ArgAction
-action_in Text = Set
-action_in (Number numbers) = Set
 action_in Nothing = SetTrue
+action_in _ = Set
 
 -- the number, or the greatest of 63 bits
 abbrev pub narrowed : ℕ → ℕ
