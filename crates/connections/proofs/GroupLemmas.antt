@@ -15,7 +15,7 @@ use Rattle.desk.specs.Outcome.{Outcome}
 use Rattle.desk.specs.Together.{AreRejectedUnasked, IsAnsweredTogether}
 use Rattle.service.specs.Stamps.{AsksStamp}
 use Rattle.service.specs.declared.exchange.Exchanged.{Exchanged}
-use Rattle.connections.specs.Gathering.{AreAsked, AreReplied, AreSent, AreWritten, IsSent}
+use Rattle.connections.specs.auxiliary.Gathering.{AreAsked, AreReplied, AreSent, AreWritten, IsSent}
 use Rattle.connections.specs.Heard.{Hall, AreAnswered, AreTakenBack, hall}
 use Rattle.connections.specs.Parts.{Answered, HandedValue, Member, alone, together, IsAlone, IsMember, most_together}
 use Rattle.connections.specs.Parts.{answered_along}

@@ -12,7 +12,7 @@ use Rattle.service.specs.Heads.{HeadValue, head_value}
 use Rattle.service.specs.Numbers.{micros_in, signed_in}
 use Rattle.service.specs.Requests.{Asked, Step, Look, IsRequest, headless, cut_head, refused_head, cut_body, whole}
 use Rattle.service.specs.Requests.{asked_by, asked_of, asked_of_deposit, calibration_asked, found_by, hold_asked}
-use Rattle.service.specs.Routes.{parameter}
+use Rattle.service.specs.Routes.{segment}
 use Rattle.service.specs.declared.refusal.Refusal.{Refusal}
 use Rattle.service.specs.declared.refusal.Refusal.TheVariants as refusal
 use Rattle.service.specs.declared.routes.Action.{Action}
@@ -109,7 +109,7 @@ asked_met file reading h body action.Hold b =
 asked_met file reading h body (action.Deposit what) b =
     met_after b (found_by file h body (action.Deposit what))
     (λ found. Ok (asked_of reading h body (action.Deposit what) found))
-    (λ found. of_deposit_met found.0 found.1 (parameter (codes "name") h.target) what b)
+    (λ found. of_deposit_met found.0 found.1 (segment 4 h.target) what b)
 asked_met file reading h body a b =
     met_after b (found_by file h body a) (λ found. Ok (asked_of reading h body a found)) (λ found. tt)
 

@@ -1,22 +1,21 @@
 -- Places: connections that are added, read on, and taken out.
 use Rattle.std.proofs.Common.{◌≡◌, ◌∙◌, ◌⊎◌, ℕ, ◌+◌, ◌<◌, ◌≤◌, Bool, true, false, List, [], ◌∷◌, ◌++◌, length, map}
-use Rattle.std.proofs.Common.{zero, suc, take, drop, set, get_or, Option, Some, None, Result, Ok, Err, OnOk, OnErr, arith}
+use Rattle.std.proofs.Common.{zero, suc, take, drop, set, get_or, Option, Some, None, arith}
 use Rattle.std.proofs.Common.{MatchOption, OnSome, refl, sym, ap, subst, inl, inr}
 use Rattle.std.proofs.KnownBytes.{Consumes-nil, Consumes-trans}
 use Rattle.std.proofs.Math.Seq.{get_or-append_seam, map-set_same, split_at}
 use Rattle.std.proofs.lemmas.List.{append-nil, append_assoc, length-append, length-map, length-take-le, map-append}
 use Rattle.std.proofs.lemmas.List.{take_all}
-use Rattle.std.proofs.lemmas.List.{get_or-map, get_or-set_same, length-set, map-set}
+use Rattle.std.proofs.lemmas.List.{get_or-map, map-set}
 use Rattle.std.proofs.lemmas.List.Elements.{length_all_zip}
 use Rattle.std.specs.List.{AllByRecursion}
 use Rattle.std.specs.Time.{instant_nanos}
 use Rattle.std.proofs.lemmas.Bool.{false≢true}
 use Rattle.std.specs.Io.KnownBytes.{Consumes, IsAtEnd}
-use Rattle.service.specs.Received.{Receives}
 use Rattle.connections.specs.Acceptor.{came, AreTold, IsFine, WasShort}
-use Rattle.connections.specs.Places.{Place, Intake, IsReadOn, AreReadOn, IsAt, IsLost, IsNew, IsTakenOut, AreAdded}
-use Rattle.connections.specs.Places.{AreAllUnfinished, AreRounds, AreWaitedFor, FailsOne, GivesOne, GivesWay, HandsOut}
-use Rattle.connections.specs.Places.{IsFailure, IsGivenUp, IsUnfinished, IsWhole, LosesOne, MayGiveWay, TakesOne}
+use Rattle.connections.specs.Places.{Place, Intake, IsReadOn, AreReadOn, IsAt, IsNew, IsTakenOut, AreAdded}
+use Rattle.connections.specs.Places.{AreAllUnfinished, AreRounds, AreWaitedFor, FailsOne, GivesOne, GivesWay}
+use Rattle.connections.specs.Places.{IsFailure, IsGivenUp, IsUnfinished, LosesOne, MayGiveWay, TakesOne}
 use Rattle.connections.specs.Places.{most_places, most_rounds, refused, lost, crowded, short, unheard}
 use Rattle.connections.specs.Waiting.{place_of, ComesOf}
 use Rattle.connections.specs.declared.acceptor.Accepted.{Accepted}
@@ -174,10 +173,6 @@ end_of_told None b c bs first end = tt
 end_of_told (Some x) None c bs first end = absurd first
 end_of_told (Some x) (Some y) c bs first end = end
 
-told_end : (a b : Option (List ℕ)) → IsAtEnd b → OnSome a (IsAtEnd b)
-told_end None b end = tt
-told_end (Some x) b end = end
-
 -- the input ended by the first of two reads, or by the second
 ends_then : (a b c : Option (List ℕ)) (bs cs : List ℕ) → Consumes a b bs → Consumes b c cs → (was between is : Bool)
     → (was ≡ false → between ≡ true → OnSome a (IsAtEnd b)) → (between ≡ false → is ≡ true → OnSome b (IsAtEnd c))
@@ -284,28 +279,22 @@ module _ {A S : Type 0} (tells : A → Accepted S → A → Type 0) (shows : ℕ
   pub waits_none : (old : Intake A S) → Waits old old
   waits_none old = waits_added old old (none_added tells shows most old)
 
-  pub waits_read : (old mid new : Intake A S) → Waits old mid → AreReadOn remaining fails mid.places new.places
-      → new.acceptor ≡ mid.acceptor → Waits old new
-  waits_read old mid new waits read same = record {
-    between = waits.between;
-    added = waits.added;
-    read = all_then_read remaining fails waits.between.places mid.places new.places waits.read read;
-    same = same ∙ waits.same;
-  }
-
+  -- nothing else changes behind them
   pub waits_same : (old mid new : Intake A S) → Waits old mid → new.acceptor ≡ mid.acceptor
       → new.places ≡ mid.places → Waits old new
-  waits_same old mid new waits same places =
-      waits_read old mid new waits
-      (subst (λ all. AreReadOn remaining fails mid.places all) (sym places) (all_still remaining fails mid.places)) same
+  waits_same old mid new waits same places = record {
+    between = waits.between;
+    added = waits.added;
+    read = rw places waits.read;
+    same = same ∙ waits.same;
+  }
 
   pub waits_then : (old mid new : Intake A S) → Waits old mid → Waits mid new → Waits old new
   waits_then old mid new first second =
       let start = first.between in
       let more = second.added.taken in
       let read : AreReadOn remaining fails (start.places ++ more) second.between.places =
-      subst (λ all. AreReadOn remaining fails (start.places ++ more) all) (sym second.added.behind)
-      (all_behind remaining fails start.places mid.places more first.read) in
+      rw second.added.behind (all_behind remaining fails start.places mid.places more first.read) in
       record {
         between = record { acceptor = second.between.acceptor; places = start.places ++ more };
         added = added_behind tells shows most old start mid second.between first.added
@@ -415,32 +404,6 @@ module _ {A S : Type 0} (tells : A → Accepted S → A → Type 0) (shows : ℕ
     through = refl;
   }
 
--- one read
-pub one_read : {S E : Type 0} (remaining : S → Option (List ℕ)) (fails : S → Type 0) (old new : Place S)
-    (read : Result (Unit {0}) E)
-    → OnOk read (Receives (remaining old.stream) (remaining new.stream) old.received new.received)
-    → OnErr read (Consumes (remaining old.stream) (remaining new.stream) [])
-    → OnErr read (new.received ≡ old.received) → new.taken ≡ old.taken → old.has_failed ≡ false
-    → (new.has_failed ≡ true → fails new.stream) → IsReadOn remaining fails old new
-one_read remaining fails old new (Ok done) receives none_lost kept taken fine failed = record {
-  got = receives.got;
-  octets = receives.octets;
-  consumed = receives.consumed;
-  ended = λ fresh end. told_end (remaining old.stream) (remaining new.stream) (receives.ended fresh end);
-  taken = taken;
-  failed = λ was is. failed is;
-  kept = λ was. absurd (false≢true (sym fine ∙ was));
-}
-one_read remaining fails old new (Err fault) receives none_lost kept taken fine failed = record {
-  got = [];
-  octets = ap (λ r. r.octets) kept ∙ sym (append-nil old.received.octets);
-  consumed = none_lost;
-  ended = λ fresh end. absurd (false≢true (sym fresh ∙ (ap (λ r. r.is_ended) (sym kept) ∙ end)));
-  taken = taken;
-  failed = λ was is. failed is;
-  kept = λ was. absurd (false≢true (sym fine ∙ was));
-}
-
 -- one that is taken out of a list
 pub taken_out : {W S : Type 0} (place_of : W → Place S) (old new : List W) (place : ℕ) (one : W) → place < length old
     → one ≡ get_or old place one → new ≡ take place old ++ drop (place + 1) old
@@ -468,15 +431,6 @@ holds_of_taken Holds place one all new out at =
     ∙ (ap (λ n. get_or (out.before ++ (one ∷ out.behind)) n one) (sym out.there)
     ∙ get_or-append_seam out.before one out.behind one) in
     subst Holds taken_is (at.holds one)
-
--- what holds of one that a list has
-pub at_place : {W S : Type 0} (place_of : W → Place S) (Holds : Place S → Type 0) (all : List W) (place : ℕ) (one : W)
-    → place < length all → one ≡ get_or all place one → Holds (place_of one) → IsAt place Holds (map place_of all)
-at_place place_of Holds all place one within is holds = record {
-  within = omega (arith, within, length-map all place_of);
-  holds = λ other. subst Holds (sym (get_or-map place_of all place one other within))
-      (subst (λ w. Holds (place_of w)) is holds);
-}
 
 -- those before this place aren't whole
 abbrev pub AreBefore : {S : Type 0} → ℕ → List (Place S) → Type 0

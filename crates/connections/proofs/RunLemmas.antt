@@ -1,5 +1,6 @@
 -- Connections are a run of the machine.
-use Rattle.std.proofs.Common.{◌≡◌, ◌∙◌, ℕ, ℤ, List, [], ◌∷◌, ◌++◌, map, Option, Some, None, Result, Ok, Err, refl, ap}
+use Rattle.std.proofs.Common.{◌≡◌, ◌∙◌, ◌⊎◌, ℕ, ℤ, List, [], ◌∷◌, ◌++◌, map, Option, Some, None, Result, Ok, Err, refl}
+use Rattle.std.proofs.Common.{ap}
 use Rattle.std.proofs.Common.{subst, sym, inl, inr, IsErr}
 use Rattle.std.proofs.lemmas.Bool.{false≢true}
 use Rattle.book.specs.declared.standing.Standing.{Ghosts}
@@ -23,15 +24,14 @@ use Rattle.desk.specs.Readers.{rights_along}
 use Rattle.desk.specs.MachineRuns.{Told, Runs, Journey, HasProperties, IsProper, after}
 use Rattle.desk.specs.Serials.{given_along, AreInOrder}
 use Rattle.desk.specs.MachineStep.{HasEffect, IsMet, Moves}
-use Rattle.desk.specs.Together.{MayBeLeftTogether}
 use Rattle.desk.specs.Viewers.{viewer_in}
 use Rattle.desk.specs.CallContract.{DeskValue, HasStepped, IsStep, MayBeLeft, no_signer, with_signer}
-use Rattle.desk.proofs.Whole.{continued}
+use Rattle.desk.proofs.journeys.Whole.{continued}
 use Rattle.service.specs.Requests.{IsRequest, Step}
 use Rattle.service.specs.Served.{Turn, AreTaken, Steps}
 use Rattle.connections.specs.Parts.{Answered, Member, Part, alone, together, IsAlone, AreTogether, AreDone}
-use Rattle.connections.specs.Run.{commands_in, commands_of, answers_in, answers_of, all_outcomes, Arrives}
-use Rattle.connections.specs.Run.{MayBeLeftAlong, IsRunAlong, ServesEach}
+use Rattle.connections.specs.Run.{commands_in, commands_of, answers_of, all_outcomes, Arrives}
+use Rattle.connections.specs.Run.{IsDoubtedBy, MayBeLeftAlong, IsRunAlong, ServesEach}
 use Rattle.connections.specs.Turns.{State, untold, IsServedBy, StopsByClock}
 use Rattle.connections.specs.declared.clock.ClockFailed.{ClockFailed}
 use Rattle.connections.proofs.PartsLemmas.{done_honest}
@@ -103,43 +103,15 @@ module _ {B X : Type 0} (g : Ghosts B) (signs : X → List ℕ → Result (List 
   one_step (Hold h) t = unsigned (Hold h) t.0 t.1
   one_step (Succeed n) t = unsigned (Succeed n) t.0 t.1
 
--- what is left after the first command and the others
-left_after : {B : Type 0} (g : Ghosts B) (s : Setting) (a : Answered (Unit {0})) (step : Told)
-    (later : List (Part (Unit {0}))) (o : Outcome) (oss : List (List Outcome)) (e : Effect) (b last : History)
-    (old mid : B) (left : g.Left) → HasEffect s step.command o b e
-    → (g.leaves mid left → MayBeLeft g s step.command o b old e left)
-    → MayBeLeftAlong g s later oss (after e b) mid last left
-    → MayBeLeftAlong g s (alone a (step ∷ []) ∷ later) ((o ∷ []) ∷ oss) b old last left
-left_after g s a step later o oss e b last old mid left has leaves (inl same) =
-    elim (leaves same.1) [
-      | inl none ↦ inl (same.0 ∙ ap (λ added. added ++ b) none.0, none.1)
-      | inr more ↦ elim more [
-        | inl holds ↦ inr (inl (subst (λ y. g.holds left y) (sym same.0) holds))
-        | inr doubt ↦ inr (inr (after e b, ((e, (has, refl)), inl (same.0, (e, (has, inl (refl, doubt)))))))
-      ]
-    ]
-left_after g s a step later o oss e b last old mid left has leaves (inr (inl holds)) = inr (inl holds)
-left_after g s a step later o oss e b last old mid left has leaves (inr (inr doubt)) =
-    inr (inr (after e b, ((e, (has, refl)), inr doubt)))
-
--- what is left where a store leaves no more than another
-left_before : {B : Type 0} (g : Ghosts B) (s : Setting) (a : Answered (Unit {0})) (later : List (Part (Unit {0})))
-    (oss : List (List Outcome)) (b last : History) (old mid : B) (left : g.Left)
-    → (g.leaves mid left → g.leaves old left) → MayBeLeftAlong g s later oss b mid last left
-    → MayBeLeftAlong g s (alone a [] ∷ later) ([] ∷ oss) b old last left
-left_before g s a later oss b last old mid left before (inl same) = inl (same.0, before same.1)
-left_before g s a later oss b last old mid left before (inr (inl holds)) = inr (inl holds)
-left_before g s a later oss b last old mid left before (inr (inr doubt)) = inr (inr (b, (refl, inr doubt)))
-
--- what is left after stamps together and the others
-left_together : {B : Type 0} (g : Ghosts B) (s : Setting) (members : List (Member (Unit {0})))
-    (later : List (Part (Unit {0}))) (os : List Outcome) (oss : List (List Outcome)) (b mid last : History)
-    (old between : B) (left : g.Left) → Arrives s (commands_in (together members)) os b mid
-    → (g.leaves between left → MayBeLeftTogether g s (map (λ m. m.question) members) os (answers_in (together members))
-    b old mid left)
+-- what is left after a part, and what the others leave
+left_after : {B : Type 0} (g : Ghosts B) (s : Setting) (part : Part (Unit {0})) (later : List (Part (Unit {0})))
+    (os : List Outcome) (oss : List (List Outcome)) (b mid last : History) (old between : B) (left : g.Left)
+    → Arrives s (commands_in part) os b mid
+    → (g.leaves between left → ((mid ≡ b) × g.leaves old left)
+    ⊎ (g.holds left mid ⊎ IsDoubtedBy g s part os b mid left))
     → MayBeLeftAlong g s later oss mid between last left
-    → MayBeLeftAlong g s (together members ∷ later) (os ∷ oss) b old last left
-left_together g s members later os oss b mid last old between left arrives leaves (inl same) =
+    → MayBeLeftAlong g s (part ∷ later) (os ∷ oss) b old last left
+left_after g s part later os oss b mid last old between left arrives leaves (inl same) =
     elim (leaves same.1) [
       | inl none ↦ inl (same.0 ∙ none.0, none.1)
       | inr more ↦ elim more [
@@ -147,9 +119,18 @@ left_together g s members later os oss b mid last old between left arrives leave
         | inr doubt ↦ inr (inr (mid, (arrives, inl (same.0, doubt))))
       ]
     ]
-left_together g s members later os oss b mid last old between left arrives leaves (inr (inl holds)) = inr (inl holds)
-left_together g s members later os oss b mid last old between left arrives leaves (inr (inr doubt)) =
+left_after g s part later os oss b mid last old between left arrives leaves (inr (inl holds)) = inr (inl holds)
+left_after g s part later os oss b mid last old between left arrives leaves (inr (inr doubt)) =
     inr (inr (mid, (arrives, inr doubt)))
+
+-- after one command
+one_left : {B : Type 0} (g : Ghosts B) (s : Setting) (a : Answered (Unit {0})) (step : Told) (o : Outcome) (e : Effect)
+    (b : History) (old : B) (left : g.Left) → HasEffect s step.command o b e → MayBeLeft g s step.command o b old e left
+    → ((after e b ≡ b) × g.leaves old left)
+    ⊎ (g.holds left (after e b) ⊎ IsDoubtedBy g s (alone a (step ∷ [])) (o ∷ []) b (after e b) left)
+one_left g s a step o e b old left has (inl none) = inl (ap (λ added. added ++ b) none.0, none.1)
+one_left g s a step o e b old left has (inr (inl holds)) = inr (inl holds)
+one_left g s a step o e b old left has (inr (inr doubt)) = inr (inr (e, (has, inl (refl, doubt))))
 
 -- what a command leaves of what an account may know, and what the others leave
 stays_on : (viewer : Viewer) (c : Command) (cs : List Command) (b mid last : History)
@@ -396,8 +377,8 @@ module _ {B X : Type 0} (g : Ghosts B) (signs : X → List ℕ → Result (List 
               history = r.history;
               runs = r.runs;
               stands = r.stands;
-              left = λ left k. left_before g old.setting a later rest.outcomes b r.history old.store next.store left
-                  (looks.leaves (before honest) left) (r.left left k);
+              left = λ left k. left_after g old.setting (alone a []) later [] rest.outcomes b b r.history old.store
+                  next.store left refl (λ l. inl (refl, looks.leaves (before honest) left l)) (r.left left k);
               ends = r.ends;
               promises = r.promises;
               undisturbed = r.undisturbed;
@@ -435,8 +416,10 @@ module _ {B X : Type 0} (g : Ghosts B) (signs : X → List ℕ → Result (List 
                     ),
                   );
                   stands = r.stands;
-                  left = λ left k. left_after g s a step later one.outcome rest.outcomes h.effect b r.history old.store
-                      next.store left h.has (h.left left) (r.left left k);
+                  left = λ left k. left_after g s (alone a (step ∷ [])) later (one.outcome ∷ []) rest.outcomes b mid
+                      r.history old.store next.store left (h.effect, (h.has, refl))
+                      (λ l. one_left g s a step one.outcome h.effect b old.store left h.has (h.left left l))
+                      (r.left left k);
                   ends = λ w. told_more s c cs one.outcome os b r.history (Some new.setting) w h.effect step.answer says
                       h.has h.says (λ w. subst (λ s. Continues s cs os mid w r.history (Some new.setting)
                       (ran.told_by cs says w)) after_it (r.ends w));
@@ -483,8 +466,8 @@ module _ {B X : Type 0} (g : Ghosts B) (signs : X → List ℕ → Result (List 
                   history = r.history;
                   runs = runs_then signs s cs us more r.history asked os b x answers t.history z y t.runs r.runs;
                   stands = r.stands;
-                  left = λ left k. left_together g s members later os rest.outcomes b t.history r.history old.store
-                      next.store left (arrives signs s asked os b x answers t.history z t.runs) (t.left left)
+                  left = λ left k. left_after g s (together members) later os rest.outcomes b t.history r.history
+                      old.store next.store left (arrives signs s asked os b x answers t.history z t.runs) (t.left left)
                       (r.left left k);
                   ends = λ w. ends_then signs s cs us more r.history (Some new.setting) asked os b x answers t.history
                       z w t.runs r.ends;

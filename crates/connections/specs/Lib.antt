@@ -1,7 +1,6 @@
 pub mod Acceptor
 pub mod Clock
 pub mod Closing
-pub mod Gathering
 pub mod Heard
 pub mod Look
 pub mod Parts
@@ -9,3 +8,4 @@ pub mod Places
 pub mod Run
 pub mod Turns
 pub mod Waiting
+pub mod auxiliary

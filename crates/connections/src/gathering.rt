@@ -1,13 +1,12 @@
 //! Connections that are handed out one after the other, before the first of them is answered.
 ghost use Rattle.std.specs.Prelude.{◌≡◌, ◌+◌, ◌-◌, ◌<◌, ◌≤◌, [], length, map, Some, None, Ok, Err, IfOk, IfSome};
 ghost use Rattle.std.specs.Prelude.{MatchOption, MatchResult, OnErr, vec_capacity, vec_len};
-ghost use Rattle.connections.specs.Gathering.{AreGatheredBehind, gathered_in, handed_view, last_in};
+ghost use Rattle.connections.specs.auxiliary.Gathering.{AreGatheredBehind, gathered_in, handed_view, last_in};
 ghost use Rattle.connections.specs.Heard.{AreGathered, IsCutShort};
 ghost use Rattle.connections.specs.Parts.{most_together};
 
 use crate::clock::{Clock, ClockFailed};
 use crate::hearing::Hearing;
-use policy::Policy;
 use service::Request;
 use std::alloc::Global;
 
@@ -68,17 +67,12 @@ fn read_for<S: Drop, C: Clock>(
 
 /// Room for it and those whose stamps can be answered with its own: for none where it asks for something else, or
 /// memory wants.
-fn room_beside<S: Drop>(
-    first: &Handed<S>,
-    most: usize,
-    policy: &Policy,
-    alloc: Global,
-) -> Vec<Handed<S>>
+fn room_beside<S: Drop>(first: &Handed<S>, most: usize, alloc: Global) -> Vec<Handed<S>>
     ensures empty { result.items ≡ [] }
     ensures few { vec_capacity result ≤ most }
     ensures together { vec_capacity result ≤ most_together }
 {
-    if first.request.stamp(policy, first.reading).is_none() {
+    if !first.request.asks_stamp() {
         return Vec::new(alloc);
     }
     match Vec::with_capacity(alloc, most.min(MOST_TOGETHER)) {
@@ -92,7 +86,6 @@ fn room_beside<S: Drop>(
 fn gather_behind<L: Hearing, C: Clock>(
     hearing: &mut L,
     clock: &mut C,
-    policy: &Policy,
     stamps: &mut Vec<Handed<L::Stream>>,
 ) -> Result<Option<Handed<L::Stream>>, ClockFailed>
     ensures gathered { IfOk result (λ last. AreGatheredBehind L.hands L.stays C.reads (map handed_view stamps.old.items)
@@ -106,7 +99,7 @@ fn gather_behind<L: Hearing, C: Clock>(
             return Ok(None);
         };
         let one = read_for(request, stream, clock)?;
-        if one.request.stamp(policy, one.reading).is_none() {
+        if !one.request.asks_stamp() {
             return Ok(Some(one));
         }
         stamps.push_reserved(one);
@@ -120,7 +113,6 @@ pub(crate) fn gather<L: Hearing, C: Clock>(
     hearing: &mut L,
     most: usize,
     clock: &mut C,
-    policy: &Policy,
 ) -> Result<Option<Gathering<L::Stream>>, ClockFailed>
     requires some { 0 < most }
     ensures gathered { IfOk result (λ gathering. MatchOption gathering
@@ -138,7 +130,7 @@ pub(crate) fn gather<L: Hearing, C: Clock>(
         return Ok(None);
     };
     let first = read_for(request, stream, clock)?;
-    let mut stamps = room_beside(&first, most, policy, hearing.alloc());
+    let mut stamps = room_beside(&first, most, hearing.alloc());
     if stamps.capacity() == 0 {
         return Ok(Some(Gathering {
             stamps,
@@ -146,6 +138,6 @@ pub(crate) fn gather<L: Hearing, C: Clock>(
         }));
     }
     stamps.push_reserved(first);
-    let last = gather_behind(hearing, clock, policy, &mut stamps)?;
+    let last = gather_behind(hearing, clock, &mut stamps)?;
     Ok(Some(Gathering { stamps, last }))
 }

@@ -1,7 +1,7 @@
 //! Connections that were handed out, and their answers.
 ghost use Rattle.std.specs.Prelude.{◌≡◌, ◌≤◌, [], ◌∷◌, length, map, MatchOption};
 ghost use Rattle.desk.specs.Answers.{reply_as};
-ghost use Rattle.connections.specs.Gathering.{AreReplied, AreWritten, gathered_in, handed_view};
+ghost use Rattle.connections.specs.auxiliary.Gathering.{AreReplied, AreWritten, gathered_in, handed_view};
 ghost use Rattle.connections.specs.Heard.{AreAnswered, hall};
 ghost use Rattle.connections.specs.Parts.{most_together};
 
@@ -10,7 +10,7 @@ use crate::hearing::Hearing;
 use book::Book;
 use cms::Signer;
 use desk::{Desk, Reply};
-use service::Environment;
+use service::Surroundings;
 use std::alloc::Global;
 
 /// Answers one by itself.
@@ -28,14 +28,13 @@ fn answer_one<L: Hearing, B: Book + Drop, G: Signer>(
         stream,
         reading,
     } = one;
-    let environment = Environment {
+    let surroundings = Surroundings {
         alloc: hearing.alloc(),
-        routes: hearing.routes(),
         reading,
         octets: hearing.octets(),
     };
     let mut stream = stream;
-    let exchanged = request.serve(environment, desk, signer, &mut stream);
+    let exchanged = request.serve(surroundings, desk, signer, &mut stream);
     hearing.take_back(stream, exchanged);
 }
 

@@ -3,7 +3,7 @@ ghost use Rattle.std.specs.Prelude.{ℕ, Option, Some, None, MatchOption};
 ghost use Rattle.service.specs.Received.{ReceivedValue};
 ghost use Rattle.service.specs.declared.exchange.Exchanged.{Exchanged as SpecExchanged};
 
-use service::{Exchanged, Request, Routes};
+use service::{Exchanged, Request};
 use std::alloc::Global;
 use std::io::Write;
 
@@ -28,9 +28,6 @@ pub trait Hearing {
 
     /// What gives memory for an answer.
     fn alloc(&self) -> Global;
-
-    /// What requests may ask for.
-    fn routes(&self) -> &Routes;
 
     /// The octets of the database's files when it was opened, if they are known.
     fn octets(&self) -> Option<u64>;

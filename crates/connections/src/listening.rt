@@ -131,8 +131,8 @@ fn rest_until(exchanged: Exchanged, end: Option<Instant>) -> Option<Instant> {
 }
 
 impl<'l, A: Acceptor + Drop, R: AllocGlobal + Clock + Timer> Listening<'l, A, R> {
-    /// What accepts connections, of which none is taken yet; so many octets the database's files had. An error where the
-    /// system can't wait for several, or memory runs out.
+    /// What accepts connections, of which none is taken yet; so many octets the database's files had. An error where
+    /// the system can't wait for several, or memory runs out.
     pub fn new<N: Net>(
         net: &N,
         rt: &'l R,
@@ -162,8 +162,8 @@ impl<'l, A: Acceptor + Drop, R: AllocGlobal + Clock + Timer> Listening<'l, A, R>
 
     /// Waits for the next connection whose request is whole; none for one that failed. At most so many are waited for.
     fn next_whole(&mut self, most: usize) -> Option<Waiting<A::Stream>>
-        ensures { ComesOf A.tells R.shows A.Stream.remaining A.Stream.fails most (intake self.old.acceptor self.old.places) result
-            (intake self.new.acceptor self.new.places) }
+        ensures { ComesOf A.tells R.shows A.Stream.remaining A.Stream.fails most
+            (intake self.old.acceptor self.old.places) result (intake self.new.acceptor self.new.places) }
     {
         for round in 0..u64::MAX {
             if let Some(done) = self.next_done(most) {
@@ -178,8 +178,8 @@ impl<'l, A: Acceptor + Drop, R: AllocGlobal + Clock + Timer> Listening<'l, A, R>
     fn next_done(&mut self, most: usize) -> Option<Option<Waiting<A::Stream>>>
         ensures { MatchOption result (AreRounds A.tells R.shows A.Stream.remaining A.Stream.fails 1 most
             (intake self.old.acceptor self.old.places) (intake self.new.acceptor self.new.places))
-            (λ done. ComesOf A.tells R.shows A.Stream.remaining A.Stream.fails most (intake self.old.acceptor self.old.places) done
-            (intake self.new.acceptor self.new.places)) }
+            (λ done. ComesOf A.tells R.shows A.Stream.remaining A.Stream.fails most
+            (intake self.old.acceptor self.old.places) done (intake self.new.acceptor self.new.places)) }
     {
         if let Some(done) = self.done_now(most) {
             return Some(done);
@@ -195,8 +195,8 @@ impl<'l, A: Acceptor + Drop, R: AllocGlobal + Clock + Timer> Listening<'l, A, R>
     fn done_now(&mut self, most: usize) -> Option<Option<Waiting<A::Stream>>>
         ensures { MatchOption result (AreWaitedFor A.tells R.shows A.Stream.remaining A.Stream.fails most
             (intake self.old.acceptor self.old.places) (intake self.new.acceptor self.new.places))
-            (λ done. ComesOf A.tells R.shows A.Stream.remaining A.Stream.fails most (intake self.old.acceptor self.old.places) done
-            (intake self.new.acceptor self.new.places)) }
+            (λ done. ComesOf A.tells R.shows A.Stream.remaining A.Stream.fails most
+            (intake self.old.acceptor self.old.places) done (intake self.new.acceptor self.new.places)) }
     {
         let Ok(now) = self.rt.moment() else {
             return None;
@@ -437,8 +437,9 @@ impl<'l, A: Acceptor + Drop, R: AllocGlobal + Clock + Timer> Listening<'l, A, R>
 impl<'l, A: Acceptor + Drop, R: AllocGlobal + Clock + Timer> Hearing for Listening<'l, A, R> {
     type Stream = Limited<'l, R, A::Stream>;
 
-    ghost hands = { λ old waits received limited new. HandsOut A.tells R.shows A.Stream.remaining A.Stream.fails (most_of waits)
-        (intake old.acceptor old.places) received limited.peer.stream (intake new.acceptor new.places) };
+    ghost hands = { λ old waits received limited new. HandsOut A.tells R.shows A.Stream.remaining A.Stream.fails
+        (most_of waits) (intake old.acceptor old.places) received limited.peer.stream
+        (intake new.acceptor new.places) };
 
     ghost fails = { λ old most new. FailsOne A.tells R.shows A.Stream.remaining A.Stream.fails most
         (intake old.acceptor old.places) (intake new.acceptor new.places) };
@@ -452,10 +453,6 @@ impl<'l, A: Acceptor + Drop, R: AllocGlobal + Clock + Timer> Hearing for Listeni
 
     fn alloc(&self) -> Global {
         self.rt.alloc()
-    }
-
-    fn routes(&self) -> &Routes {
-        &self.routes
     }
 
     fn octets(&self) -> Option<u64> {

@@ -1,5 +1,5 @@
 //! Looks at the machine's clocks.
-ghost use Rattle.std.specs.Prelude.{◌≡◌, true, false, Some, IfOk, MatchBool};
+ghost use Rattle.std.specs.Prelude.{◌≡◌, true, false, Some, IfOk};
 ghost use Rattle.std.specs.Duration.{as_nanos};
 ghost use Rattle.connections.specs.Clock.{GoAlike, GoesOn, with_look};
 ghost use Rattle.connections.specs.Look.{look_of, looks_of};

@@ -44,7 +44,7 @@ fn answer_next<L: Hearing, C: Clock, B: Book + Drop, G: Signer>(
     ensures dropped { OnErr result (IsDropped L.hands C.reads most (hall hearing.old clock.old desk.old signer.old)
         (hall hearing.new clock.new desk.new signer.new)) }
 {
-    match gather(hearing, most, clock, desk.policy())? {
+    match gather(hearing, most, clock)? {
         Some(gathering) => {
             let count = gathering.count();
             answer_gathered(hearing, gathering, desk, signer);

@@ -13,8 +13,8 @@ use Rattle.desk.specs.Calls.{looked_at}
 use Rattle.desk.specs.Facts.{clock_of, count_in}
 use Rattle.desk.specs.Viewers.{viewer_in}
 use Rattle.desk.specs.declared.clock_facts.Looked.{Looked}
-use Rattle.desk.proofs.Judgement.{count_same}
-use Rattle.desk.proofs.SameEffect.{facts_same}
+use Rattle.desk.proofs.stamps.Judgement.{count_same}
+use Rattle.desk.proofs.journeys.SameEffect.{facts_same}
 use Rattle.service.specs.Accounts.{IsUsedAt, account_text}
 use Rattle.service.specs.Answers.{success}
 use Rattle.service.specs.Handlers.{AnswersReport}

@@ -18,7 +18,7 @@ use Rattle.audit.specs.declared.fault.ExtractFault.TheVariants.{NotAuditor, Rang
 use Rattle.policy.specs.Record.{AccountValue, PolicyValue}
 use Rattle.service.specs.Answers.{AnswerValue, allow_line, answer_text, content_lines, crlf, extract_answer, head_text}
 use Rattle.service.specs.Answers.{refusal_answer, status_line, success}
-use Rattle.service.specs.ExtractAnswers.{SendingFails, SendsExtract, ServesExtract, extracted, kept_back}
+use Rattle.service.specs.auxiliary.ExtractAnswers.{SendingFails, SendsExtract, ServesExtract, extracted, kept_back}
 use Rattle.service.specs.Refusals.{refusal_of_extract}
 use Rattle.service.specs.Served.{Sends, SendsOctets, IsCutBehindHead, TellsExtractFailure}
 use Rattle.service.specs.declared.answer.Media.TheVariants as media
@@ -193,40 +193,37 @@ some_head reading count =
     let behind = content_lines media.Csv count ++ allow_line None ++ codes "Connection: close" ++ crlf ++ crlf in
     omega (arith, length-append (status_line 200) behind)
 
-module _ {B W : Type 0} (g : Ghosts B) (contents : W → Option (List ℕ)) (reading : ℤ) (w mid w' : W)
+module _ {B W : Type 0} (g : Ghosts B) (contents : W → Option (List ℕ)) (reading : ℤ) (w mid w' : W) (old new : B)
     (file : PolicyValue) (account : AccountValue) (from to : ℕ) (keeps : Keeps (contents w) (contents mid)) where
   -- a refusal of an extract is told
-  pub keeping_back : (old new : B) (outcome : Served) (f : ExtractFault) (r : Refusal)
-      → ComesWhere file account from to f → IfUnasked (new ≡ old) f
-      → g.fault_count new ≡ count_after f (g.fault_count old) → f ≢ Write
+  pub keeping_back : (f : ExtractFault) (r : Refusal) (outcome : Served) → ComesWhere file account from to f
+      → IfUnasked (new ≡ old) f → g.fault_count new ≡ count_after f (g.fault_count old) → f ≢ Write
       → r ≡ refusal_of_extract f → Sends contents reading mid w' (refusal_answer r) outcome
       → ServesExtract g contents reading w w' old new file account from to outcome
-  keeping_back old new outcome f r comes unasked counted written same sent =
+  keeping_back f r outcome comes unasked counted written same sent =
       let P : Refusal → Type 0 = λ r. Sends contents reading w w' (refusal_answer r) outcome in
-      kept_back f comes unasked counted written
-      (subst P same (sent_behind contents reading w mid w' keeps (refusal_answer r) outcome sent))
+      kept_back f comes unasked counted written (subst P same (sent_behind contents reading w mid w' keeps
+      (refusal_answer r) outcome sent))
 
   -- of one nothing is written
-  pub unwritten : (old new : B) (status : ℕ) → IsAllowed file account from to → status ≡ 200
+  pub unwritten : (status : ℕ) → IsAllowed file account from to → status ≡ 200
       → ServesExtract g contents reading w mid old new file account from to (served.WriteFailed status 0)
-  unwritten old new status allowed same =
-      let P : ℕ → Type 0 = λ status.
-      ServesExtract g contents reading w mid old new file account from to (served.WriteFailed status 0) in
+  unwritten status allowed same =
       let none : Appends (contents w) (contents mid) [] =
       kept_appends _ _ _ [] keeps (Appends-nil (contents mid)) in
-      subst P (sym same) (extracted allowed
+      rw same (extracted allowed
       (λ honest b stands.
       let body = extract_text from to b in
       (refl, omega (arith, some_head reading (length body), length-append (extract_head reading (length body)) body), none))
       (refl, [], refl, none))
 
   -- an extract whose length was found is answered
-  pub answering : (old found new : B) (count : ℕ) (outcome : Served)
-      → IsAllowed file account from to → OnlyLooks g old found → OnlyLooks g found new
+  pub answering : (found : B) (count : ℕ) (outcome : Served) → IsAllowed file account from to
+      → OnlyLooks g old found → OnlyLooks g found new
       → (g.honest found → (b : History) → Stands g b old → count ≡ length (extract_text from to b))
       → SendsExtract g contents reading mid w' found new from to count outcome
       → ServesExtract g contents reading w w' old new file account from to outcome
-  answering old found new count outcome allowed first second length_is s =
+  answering found count outcome allowed first second length_is s =
       extracted allowed
       (λ honest b stands. sent_behind contents reading w mid w' keeps (extract_answer from to b) outcome
       (s.sent honest b (first.stands b stands) (length_is (second.honest honest) b stands)))
@@ -250,7 +247,4 @@ pub found_fails : {B : Type 0} (g : Ghosts B) (reading : ℤ) (old found new : B
     → TellsExtractFailure reading from to b (g.fault_count old) (g.fault_count new) before after outcome
 found_fails g reading old found new from to count before mid after outcome first second length_is counted kept fails
     honest b stands =
-    let P : ℕ → Type 0 = λ n. TellsExtractFailure reading from to b n (g.fault_count new) before after outcome in
-    let Q : Option ℕ → Type 0 =
-    λ f. TellsExtractFailure reading from to b (g.fault_count found) (g.fault_count new) f after outcome in
-    subst P counted (subst Q kept (fails honest b (first.stands b stands) (length_is (second.honest honest) b stands)))
+    rw (← counted, ← kept) (fails honest b (first.stands b stands) (length_is (second.honest honest) b stands))

@@ -10,4 +10,3 @@ pub mod RequestLemmas
 pub mod Rows
 pub mod ServingLemmas
 pub mod StampLemmas
-pub mod TargetLemmas

@@ -16,7 +16,7 @@ use Rattle.desk.specs.declared.clock_facts.Looked.{Looked}
 use Rattle.policy.specs.Record.{CounterValue}
 use Rattle.desk.specs.CallContract.{DeskValue}
 use Rattle.desk.specs.Command.{Calibrate, Hold}
-use Rattle.service.specs.Answers.{AnswerValue, success}
+use Rattle.service.specs.Answers.{success}
 use Rattle.service.specs.Forms.{field_of}
 use Rattle.service.specs.Handlers.{AnswersReport}
 use Rattle.service.specs.Reports.{IsBodyOf, Seen, tells}
@@ -58,27 +58,21 @@ status_told g contents seen w w' old new counter asked looked store body outcome
 )
 
 module _ {B X : Type 0} (g : Ghosts B) (signs : X → List ℕ → Result (List ℕ) SignerFault → X → Type 0) (count : X → ℕ)
-    (old new : DeskValue B) (a : AnswerValue) where
+    (old new : DeskValue B) where
   -- what is told of a calibration
   pub calibration_told : (x : CalibrationValue) (outcome : Result ℕ StoreFault)
       → (g.honest new.store → (b : History) → Stands g b old.store → outcome ≡ Err store.Backwards
       → IsBackwards x (latest_calibration b))
-      → a ≡ added_answer outcome → Tells g signs count old new (Calibrate x) (entered outcome) a
-  calibration_told x (Ok number) behind is = plainly is
-  calibration_told x (Err store.Memory) behind is = plainly is
-  calibration_told x (Err store.Database) behind is = plainly is
-  calibration_told x (Err store.NotOurs) behind is = plainly is
-  calibration_told x (Err store.Full) behind is = plainly is
-  calibration_told x (Err store.Backwards) behind is =
-      backwards x refl refl (λ honest b stands. behind honest b stands refl) is
+      → Tells g signs count old new (Calibrate x) (entered outcome) (added_answer outcome)
+  calibration_told x (Err store.Backwards) behind =
+      backwards x refl refl (λ honest b stands. behind honest b stands refl) refl
+  calibration_told x (Ok number) behind = plainly refl
+  calibration_told x (Err other) behind = plainly refl
 
   -- what is told of a hold
   pub hold_told : (x : HoldValue) (outcome : Result ℕ StoreFault) → IfErr outcome IsOfStorage
-      → a ≡ added_answer outcome → Tells g signs count old new (Hold x) (entered outcome) a
-  hold_told x (Ok number) of is = plainly is
-  hold_told x (Err store.Memory) of is = plainly is
-  hold_told x (Err store.Database) of is = plainly is
-  hold_told x (Err store.NotOurs) of is = plainly is
-  hold_told x (Err store.Full) of is = plainly is
-  hold_told x (Err store.Backwards) (inl other) is = absurd cc
-  hold_told x (Err store.Backwards) (inr other) is = absurd cc
+      → Tells g signs count old new (Hold x) (entered outcome) (added_answer outcome)
+  hold_told x (Err store.Backwards) (inl other) = absurd cc
+  hold_told x (Err store.Backwards) (inr other) = absurd cc
+  hold_told x (Ok number) of = plainly refl
+  hold_told x (Err other) of = plainly refl

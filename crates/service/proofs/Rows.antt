@@ -1,7 +1,8 @@
 -- The definitions, computed on rows.
-use Rattle.std.proofs.Common.{◌≡◌, ℕ, pos, List, [], ◌∷◌, ◌++◌, Some, None, Ok, Err, refl}
+use Rattle.std.proofs.Common.{◌≡◌, ℕ, ◌+◌, ◌==◌, Bool, false, pos, List, [], ◌∷◌, ◌++◌, Some, None, Ok, Err, refl}
+use Rattle.std.specs.List.{flat_map}
 use Rattle.std.specs.Fmt.{digits}
-use Rattle.std.specs.Prelude.{codes}
+use Rattle.std.specs.Prelude.{codes, if◌then◌else◌}
 use Rattle.httparse.specs.Grammar.{trim_ows}
 use Rattle.matchit.proofs.OnLiterals.{matchit_on_literals}
 use Rattle.tsp.specs.declared.rule.Rule.TheVariants as rule
@@ -9,7 +10,7 @@ use Rattle.service.specs.Answers.{answer_text, refusal_answer, crlf, line_feed, 
 use Rattle.service.specs.Checks.{wanted_by, wanted_at, type_in}
 use Rattle.service.specs.Heads.{HeadValue}
 use Rattle.service.specs.Numbers.{is_digits, length_in, number_in}
-use Rattle.service.specs.Routes.{methods_at, names_of, nothing, on_right, parameter, routes}
+use Rattle.service.specs.Routes.{methods_at, names_of, nothing, on_right, routes, segment, segments, table}
 use Rattle.service.specs.declared.refusal.Refusal.TheVariants as refusal
 use Rattle.service.specs.declared.routes.Action.TheVariants as action
 use Rattle.service.specs.declared.routes.DepositAction.TheVariants as deposit
@@ -101,33 +102,33 @@ at_audit : methods_at (codes "/audit/1/2") ≡ Some (record nothing { get = Some
 unfolding routes matchit_on_literals
 at_audit = refl
 
--- what the names in their routes took of them
-part_of_number : parameter (codes "number") (codes "/deposits/12/readers/bob") ≡ codes "12"
-unfolding routes matchit_on_literals
-part_of_number = refl
+-- the names in braces, each with its place among the segments of its text
+abbrev is_name : List ℕ → Bool
+is_name [] = false
+is_name (octet ∷ rest) = octet == 0x7B
 
-part_of_name : parameter (codes "name") (codes "/deposits/12/readers/bob") ≡ codes "bob"
-unfolding routes matchit_on_literals
-part_of_name = refl
+abbrev names_from : ℕ → List (List ℕ) → List (ℕ × List ℕ)
+names_from place [] = []
+names_from place (part ∷ rest) =
+    if is_name part then (place, part) ∷ names_from (place + 1) rest else names_from (place + 1) rest
 
-part_of_group : parameter (codes "name") (codes "/deposits/1/groups/staff") ≡ codes "staff"
-unfolding routes matchit_on_literals
-part_of_group = refl
+abbrev number_at : ℕ × List ℕ
+number_at = (2, codes "{number}")
 
-part_before_token : parameter (codes "number") (codes "/deposits/12/token") ≡ codes "12"
-unfolding routes matchit_on_literals
-part_before_token = refl
+named_places : flat_map (λ line. names_from 0 (segments line.0)) table
+    ≡ number_at ∷ number_at ∷ number_at ∷ number_at ∷ (4, codes "{name}") ∷ number_at ∷ (4, codes "{name}")
+    ∷ (2, codes "{from}") ∷ (3, codes "{to}") ∷ []
+named_places = refl
 
-first_part : parameter (codes "from") (codes "/audit/12/34") ≡ codes "12"
-unfolding routes matchit_on_literals
-first_part = refl
+-- segments
+segments_between : segments (codes "/deposits/12/groups/staff")
+    ≡ [] ∷ codes "deposits" ∷ codes "12" ∷ codes "groups" ∷ codes "staff" ∷ []
+segments_between = refl
 
-last_part : parameter (codes "to") (codes "/audit/12/34") ≡ codes "34"
-unfolding routes matchit_on_literals
+last_part : segment 3 (codes "/audit/12/34") ≡ codes "34"
 last_part = refl
 
-no_part : parameter (codes "name") (codes "/audit/12/34") ≡ []
-unfolding routes matchit_on_literals
+no_part : segment 4 (codes "/audit/12/34") ≡ []
 no_part = refl
 
 -- numbers

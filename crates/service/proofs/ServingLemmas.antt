@@ -6,13 +6,12 @@ use Rattle.std.specs.Io.KnownBytes.{Consumes, IsAtEnd}
 use Rattle.book.specs.declared.standing.Standing.{Ghosts}
 use Rattle.book.specs.Stands.{OnlyLooks}
 use Rattle.cms.specs.declared.signer.SignerFault.{SignerFault}
-use Rattle.desk.specs.CallContract.{DeskValue}
 use Rattle.desk.specs.MachineRuns.{Told}
 use Rattle.policy.specs.Record.{AccountValue, PolicyValue}
 use Rattle.service.specs.Answers.{AnswerValue, refusal_answer, unavailable}
 use Rattle.service.specs.Refusals.{refusal_of_extract}
 use Rattle.service.specs.Reports.{IsRefusedBy, keeps_back}
-use Rattle.service.specs.ExtractAnswers.{ServesExtract, extracted, kept_back}
+use Rattle.service.specs.auxiliary.ExtractAnswers.{ServesExtract, extracted, kept_back}
 use Rattle.service.specs.Known.{IsAnswerable, IsDue, checked, malformed, out_of_memory, out_of_memory_for_body}
 use Rattle.service.specs.Received.{ReceivedValue, in_body, in_head}
 use Rattle.service.specs.Requests.{Report, Look, Extract, IsEarly, IsPart, IsRequest, asked_by, cut_body, cut_head}
@@ -27,27 +26,12 @@ use Rattle.service.specs.declared.routes.Action.{Action}
 use Rattle.service.specs.declared.served.Served.{Served}
 use Rattle.service.specs.declared.served.Served.TheVariants as served
 
--- before and after
-abbrev pub turn : {W B X : Type 0} → Option (List ℕ) → Option (List ℕ) → W → W → DeskValue B → DeskValue B → X → X
-    → Turn W B X
-turn before after w w' d d' x x' = record {
-  input = before;
-  input_after = after;
-  writer = w;
-  writer_after = w';
-  desk = d;
-  desk_after = d';
-  signer = x;
-  signer_after = x';
-}
-
 -- what was read of a request is a request that is whole
-pub answerable : (file : PolicyValue) (reading : ℤ) (before after : Option (List ℕ)) (octets : List ℕ) (action : Action)
-    (start : Head) (body : List ℕ) → IsAnswerable octets action start body → Consumes before after octets
+pub answerable : (file : PolicyValue) (reading : ℤ) {before after : Option (List ℕ)} {octets : List ℕ} {action : Action}
+    {start : Head} {body : List ℕ} → IsAnswerable octets action start body → Consumes before after octets
     → IsRequest file reading before after (asked_by file reading (head_view start) body action)
-answerable file reading before after octets action start body is read =
-    let P : List ℕ → Type 0 = λ l. Consumes before after l in
-    whole is.read is.is_head is.asked is.wanted body is.count (subst P is.split read)
+answerable file reading {start = start} {body} is read =
+    whole is.read is.is_head is.asked is.wanted body is.count (rw is.split at read)
     (ap (asked_by file reading (head_view start) body) is.action_is
     ∙ ap (λ v. asked_by file reading v body is.asked.action) is.same)
 

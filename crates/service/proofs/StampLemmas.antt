@@ -1,5 +1,6 @@
 -- Octets that are a request for a stamp are nothing else.
-use Rattle.std.proofs.Common.{◌≡◌, ◌∙◌, ℕ, ℤ, true, false, List, [], ◌++◌, Some, Result, Ok, Err, length, take}
+use Rattle.std.proofs.Common.{◌≡◌, ◌∙◌, ℕ, ℤ, Bool, false, true, List, [], ◌++◌, Option, Some, Result, Ok, Err, codes}
+use Rattle.std.proofs.Common.{length, take}
 use Rattle.std.proofs.Common.{Bor, ap, append-nil, arith, refl, inl, inr, subst, sym}
 use Rattle.std.proofs.lemmas.List.{take_all}
 use Rattle.std.specs.Prelude.{MatchOption}
@@ -7,10 +8,13 @@ use Rattle.std.specs.Result.{result_ok}
 use Rattle.httparse.specs.Grammar.{RequestHead, print_request}
 use Rattle.httparse.proofs.GrammarLemmas.{request_unique}
 use Rattle.desk.specs.Batches.{Question, stamp_for}
+use Rattle.desk.specs.Command.{Stamp}
 use Rattle.desk.specs.Together.{question_view}
 use Rattle.desk.specs.declared.batch.Asked.{Asked as AskedStamp}
-use Rattle.policy.specs.Record.{PolicyValue}
-use Rattle.service.specs.Checks.{◌>>=◌, WantedValue, is_stamp, wanted_by}
+use Rattle.policy.specs.Record.{AccountValue, PolicyValue}
+use Rattle.policy.specs.LookUp.{account_of_key, anonymous_account}
+use Rattle.service.specs.Checks.{◌>>=◌, WantedValue, account_by, is_stamp, wanted_by}
+use Rattle.service.specs.Fields.{Stated, Never, Once, Twice, stated}
 use Rattle.service.specs.Heads.{HeadValue, IsHead, BeginsWith, head_value}
 use Rattle.service.specs.Known.{IsAnswerable, IsDue, IsRefused, checked, malformed, out_of_memory}
 use Rattle.service.specs.Known.{out_of_memory_for_body}
@@ -23,6 +27,7 @@ use Rattle.service.specs.declared.due.Due.{Due}
 use Rattle.service.specs.declared.due.Due.TheVariants as due
 use Rattle.service.specs.declared.head.Head.{Head}
 use Rattle.service.specs.declared.refusal.Refusal.{Refusal}
+use Rattle.service.specs.declared.refusal.Refusal.TheVariants as refusal
 use Rattle.service.specs.declared.routes.Action.{Action}
 use Rattle.service.specs.declared.routes.Action.TheVariants as action
 use Rattle.desk.specs.declared.rights.Change.TheVariants.{Give, Take}
@@ -149,49 +154,73 @@ module _ (file : PolicyValue) (reading : ℤ) (r : ReceivedValue) (q : Question)
       → asked_by file reading (head_view head) body.now a ≡ Ok (Step (stamp_for q))
   answer_due a head body is = answers_stamp file reading (take r.taken r.octets) q asked_in a head body.now is
 
-  pub stamp_due : (d : Due) → IsDue r d
-      → ((a : Action) (head : Head) (body : Bor (List ℕ)) → d ≡ due.Answer a head body → ⊥) → ⊥
-  stamp_due due.Nothing is other =
+  -- and nothing else is due
+  pub nothing_else : (d : Due) → IsDue r d
+      → ((head : Head) (body : Bor (List ℕ)) → d ≡ due.Answer action.Stamp head body → ⊥) → ⊥
+  nothing_else due.Nothing is other =
       some file reading (take r.taken r.octets) q asked_in (ap (λ n. take n r.octets) is.2)
-  stamp_due (due.Refusal f) (inl refused) other =
+  nothing_else (due.Refusal f) (inl refused) other =
       not_refused file reading (take r.taken r.octets) q asked_in f refused
-  stamp_due (due.Refusal f) (inr (cut, same)) other =
+  nothing_else (due.Refusal f) (inr (cut, same)) other =
       let octets = take r.taken r.octets in
       let all : octets ≡ r.octets =
       ap (λ n. take n r.octets) cut.all ∙ take_all (length r.octets) r.octets (omega arith) in
       let P : List ℕ → Type 0 = λ l. IsPartial l in
       not_partial file reading octets q asked_in (subst P (sym all) cut.partial)
-  stamp_due (due.Answer a head body) is other = other a head body refl
+  nothing_else (due.Answer a head body) is other =
+      only_stamp file reading (head_view head) body.now a q (answer_due a head body is)
+      (λ same. other head body (ap (λ b. due.Answer b head body) same))
 
-stamp_is : (a : Action) → is_stamp a ≡ true → a ≡ action.Stamp
+pub stamp_is : (a : Action) → is_stamp a ≡ true → a ≡ action.Stamp
 stamp_is action.Stamp is = refl
 stamp_is other is = cc
 
-module _ (file : PolicyValue) (reading : ℤ) (r : ReceivedValue) (a : Action) (head : Head) (body : Bor (List ℕ))
-    (is : IsDue r (due.Answer a head body)) where
-  -- an answer to another action is to no stamp
-  pub no_stamp : is_stamp a ≡ false → (q : Question) → AsksStamp file reading r q → ⊥
-  no_stamp other q asks =
-      only_stamp file reading (head_view head) body.now a q (answer_due file reading r q asks a head body is)
-      (λ same.
-      let both : true ≡ false = sym (ap is_stamp same) ∙ other in
-      cc)
+abbrev pub is_stamp_due : Due → Bool
+is_stamp_due (due.Answer a head body) = is_stamp a
+is_stamp_due other = false
+
+-- who shows at most one key is known, or nobody is
+key_found : (file : PolicyValue) (key : Stated) → (key ≡ Twice → ⊥)
+    → (account : Option AccountValue) × (account_by file key ≡ Ok account)
+key_found file Never once = (anonymous_account file, refl)
+key_found file (Once key) once = (account_of_key file key, refl)
+key_found file Twice once = absurd (once refl)
+
+module _ (file : PolicyValue) (reading : ℤ) (r : ReceivedValue) (head : Head) (body : Bor (List ℕ))
+    (is : IsDue r (due.Answer action.Stamp head body)) where
+  abbrev Asks : Result Asked Refusal
+  Asks = asked_by file reading (head_view head) body.now action.Stamp
+
+  abbrev by_key : Result (Option AccountValue) Refusal → Result Asked Refusal
+  by_key found = found >>= (λ account. Ok (Step (Stamp account reading body.now)))
+
+  asks : (q : Question) → Asks ≡ Ok (Step (stamp_for q)) → AsksStamp file reading r q
+  asks q same before after read =
+      subst (λ asked. IsRequest file reading before after asked) same
+      (answerable file reading is read)
+
+  refuses : (f : Refusal) → Asks ≡ Err f → (q : Question) → AsksStamp file reading r q → ⊥
+  refuses f same q asked =
+      let both : Err f ≡ Ok (Step (stamp_for q)) =
+      sym same ∙ answer_due file reading r q asked action.Stamp head body is in
+      cc
 
   -- the stamp that the checks find
-  pub found_stamp : is_stamp a ≡ true → (found : Result AskedStamp Refusal)
-      → result_by (λ asked. Step (stamp_for (question_view asked))) found
-      ≡ asked_by file reading (head_view head) body.now action.Stamp
+  pub found_stamp : (found : Result AskedStamp Refusal)
+      → result_by (λ asked. Step (stamp_for (question_view asked))) found ≡ Asks
       → MatchOption (result_ok found) ((q : Question) → AsksStamp file reading r q → ⊥)
       (λ asked. AsksStamp file reading r (question_view asked))
-  found_stamp stamp (Ok asked) same = λ before after read.
-      let P : Result Asked Refusal → Type 0 = λ result. IsRequest file reading before after result in
-      let Q : Action → Type 0 =
-      λ b. IsRequest file reading before after (asked_by file reading (head_view head) body.now b) in
-      subst P (sym same) (subst Q (stamp_is a stamp)
-      (answerable file reading before after (take r.taken r.octets) a head body.now is read))
-  found_stamp stamp (Err f) same = λ q asks.
-      let A : Action → Type 0 =
-      λ b. asked_by file reading (head_view head) body.now b ≡ Ok (Step (stamp_for q)) in
-      let both : Err f ≡ Ok (Step (stamp_for q)) =
-      same ∙ subst A (stamp_is a stamp) (answer_due file reading r q asks a head body is) in
-      cc
+  found_stamp (Ok asked) same = asks (question_view asked) (sym same)
+  found_stamp (Err f) same = refuses f (sym same)
+
+  -- where two keys are shown, none is asked for, and else one is
+  pub by_two_keys : stated (codes "counter-key") (head_view head).fields ≡ Twice → (q : Question)
+      → AsksStamp file reading r q → ⊥
+  by_two_keys twice = refuses refusal.BadRequest (ap (λ key. by_key (account_by file key)) twice)
+
+  pub by_one_key : (stated (codes "counter-key") (head_view head).fields ≡ Twice → ⊥)
+      → (q : Question) × AsksStamp file reading r q
+  by_one_key once =
+      let found = key_found file (stated (codes "counter-key") (head_view head).fields) once in
+      let q : Question = record { account = found.0; reading = reading; octets = body.now } in
+      (q, asks q (ap by_key found.1))

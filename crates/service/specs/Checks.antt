@@ -10,7 +10,7 @@ use Rattle.policy.specs.Record.{AccountValue, PolicyValue}
 use Rattle.service.specs.Fields.{Stated, Never, Once, Twice, stated, same_letters}
 use Rattle.service.specs.Heads.{HeadValue}
 use Rattle.service.specs.Numbers.{length_in, number_in, is_reference}
-use Rattle.service.specs.Routes.{methods_at, action_of, parameter}
+use Rattle.service.specs.Routes.{methods_at, action_of, segment}
 use Rattle.service.specs.declared.refusal.Refusal.{Refusal}
 use Rattle.service.specs.declared.refusal.Refusal.TheVariants as refusal
 use Rattle.service.specs.declared.routes.Action.{Action}
@@ -139,13 +139,13 @@ watcher_shown file h = do
 
 -- The target's number is one.
 abbrev pub number_stated : HeadValue → Result ℕ Refusal
-number_stated h = given_or refusal.NotHere (number_in (parameter (codes "number") h.target))
+number_stated h = given_or refusal.NotHere (number_in (segment 2 h.target))
 
 -- The target's two numbers are ones: the first serial number of a range, and the last.
 abbrev pub range_stated : HeadValue → Result (ℕ × ℕ) Refusal
 range_stated h = do
-  from ← given_or refusal.BadRange (number_in (parameter (codes "from") h.target))
-  to ← given_or refusal.BadRange (number_in (parameter (codes "to") h.target))
+  from ← given_or refusal.BadRange (number_in (segment 2 h.target))
+  to ← given_or refusal.BadRange (number_in (segment 3 h.target))
   Ok (from, to)
 
 -- One field tells the reference.

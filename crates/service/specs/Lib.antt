@@ -1,7 +1,6 @@
 pub mod Accounts
 pub mod Answers
 pub mod Checks
-pub mod ExtractAnswers
 pub mod Fields
 pub mod Forms
 pub mod Handlers
@@ -18,3 +17,4 @@ pub mod Served
 pub mod Stamps
 pub mod Status
 pub mod Views
+pub mod auxiliary

@@ -1,5 +1,5 @@
 -- What a request asks for: a command for the desk, or a report that takes a look into its store; or it is refused.
-use Rattle.std.specs.Prelude.{◌≡◌, ℕ, ◌<◌, ℤ, List, [], ◌++◌, length, codes, Option, Result, Ok, Err}
+use Rattle.std.specs.Prelude.{◌≡◌, ℕ, ◌<◌, ℤ, List, [], ◌++◌, length, Option, Result, Ok, Err}
 use Rattle.std.specs.Io.KnownBytes.{Consumes, IsAtEnd}
 use Rattle.httparse.specs.Grammar.{RequestHead, print_request}
 use Rattle.policy.specs.Record.{AccountValue, PolicyValue}
@@ -11,7 +11,7 @@ use Rattle.service.specs.Checks.{reference_stated, range_stated, operator_shown,
 use Rattle.service.specs.Forms.{calibration_stated, hold_stated}
 use Rattle.service.specs.Heads.{HeadValue, head_value, IsHead, IsBegun, IsHeadless}
 use Rattle.service.specs.Received.{IsPartial}
-use Rattle.service.specs.Routes.{parameter, reader_of}
+use Rattle.service.specs.Routes.{reader_of, segment}
 use Rattle.service.specs.declared.refusal.Refusal.{Refusal}
 use Rattle.service.specs.declared.refusal.Refusal.TheVariants as refusal
 use Rattle.service.specs.declared.routes.Action.{Action}
@@ -109,7 +109,7 @@ asked_of reading h body action.Stamp account = Step (Stamp account reading body)
 asked_of reading h body action.Keep (account, reference) = Step (Deposit account reading reference body)
 asked_of reading h body action.List account = Step (ListAll account)
 asked_of reading h body (action.Deposit what) (account, number) =
-    asked_of_deposit account number (parameter (codes "name") h.target) what
+    asked_of_deposit account number (segment 4 h.target) what
 asked_of reading h body action.Extract (account, from, to) = Look (Extract account from to)
 asked_of reading h body action.Calibrate calibration = Step (Calibrate calibration)
 asked_of reading h body action.Hold hold = Step (Hold hold)

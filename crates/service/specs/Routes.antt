@@ -1,10 +1,10 @@
 -- Which targets there are, and what the methods do there. What matches a route, `matchit` says.
-use Rattle.std.specs.Prelude.{ℕ, List, [], ◌∷◌, ◌++◌, codes, fold, Option, Some, None, option_map, unwrap_or}
-use Rattle.std.specs.Prelude.{Result, Ok, Err, if◌then◌else◌}
+use Rattle.std.specs.Prelude.{ℕ, ◌==◌, List, [], ◌∷◌, ◌++◌, codes, fold, slice_get, Option, Some, None, option_map}
+use Rattle.std.specs.Prelude.{Result, Ok, Err, if◌then◌else◌, unwrap_or}
+use Rattle.std.specs.List.{slice_split}
 use Rattle.std.specs.Str.{bytes_eq}
 use Rattle.std.proofs.Common.{Bor}
 use Rattle.matchit.specs.Order.{placed}
-use Rattle.matchit.specs.Params.{walk, named}
 use Rattle.matchit.specs.Route.{Scan, parse_route}
 use Rattle.matchit.specs.Router.{RouteOf, route_from}
 use Rattle.matchit.specs.Rows.{RowsOf}
@@ -81,17 +81,14 @@ routes = routes_of table
 abbrev pub methods_at : List ℕ → Option Methods
 methods_at target = option_map (λ route. route.value) (first routes target)
 
--- what the names in its route's text took of a target
-abbrev pub taken_by : Option (RouteOf Methods) → List ℕ → List (List ℕ × List ℕ)
-taken_by None target = []
-taken_by (Some route) target = walk route.pattern route.text target route.names 0 0
+-- The segments of a target, between its slashes; what stands before the first is the one numbered 0.
+abbrev pub segments : List ℕ → List (List ℕ)
+segments target = slice_split (λ octet. octet == 0x2F) target
 
-abbrev pub taken_of : List ℕ → List (List ℕ × List ℕ)
-taken_of target = taken_by (first routes target) target
-
--- the segment of a target that a name took, or nothing where its route has no such name
-abbrev pub parameter : List ℕ → List ℕ → List ℕ
-parameter name target = unwrap_or (named name (taken_of target)) []
+-- One of them, or nothing where there is none. In the table above `number` and `from` have the place 2, `to` has 3, and
+-- `name` 4.
+abbrev pub segment : ℕ → List ℕ → List ℕ
+segment place target = unwrap_or (slice_get (segments target) place) []
 
 -- what the method of a name does; names of methods are as they are, letter by letter (RFC 9110 9.1)
 abbrev pub action_of : Methods → List ℕ → Option Action

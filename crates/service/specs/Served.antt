@@ -81,8 +81,8 @@ SendsOctets contents reading old new served.ReadFailed = ⊥
 SendsOctets contents reading old new (served.WriteFailed told sent) =
     (told ≡ 200) × (octets : List ℕ) × (length octets ≡ sent) × Appends (contents old) (contents new) octets
 
--- As far as the writer tells its failures (`audit::Output`): a write failed where an answer isn't told as written whole,
--- and else none did.
+-- As far as the writer tells its failures (`audit::Output`): a write failed where an answer isn't told as written
+-- whole, and else none did.
 abbrev pub TellsFailure : (before after : Option ℕ) → Served → Type 0
 TellsFailure before after (served.WriteFailed status sent) = HasFailed before after
 TellsFailure before after other = after ≡ before

@@ -1,7 +1,6 @@
 -- What the program's types stand for.
-use Rattle.std.specs.Prelude.{◌≡◌, ℕ, Bool, true, false, List, [], ◌++◌, length, map, All, codes, Option, Vec}
+use Rattle.std.specs.Prelude.{◌≡◌, ℕ, List, length, map, All, Option}
 use Rattle.std.specs.Prelude.{Result, Ok, Err}
-use Rattle.std.specs.declared.alloc.Global.{Global}
 use Rattle.std.proofs.Common.{Bor}
 use Rattle.httparse.specs.Spans.{IsHeaderWithin, header_bytes}
 use Rattle.policy.specs.Record.{AccountValue}
@@ -9,18 +8,9 @@ use Rattle.policy.specs.View.{account_view, policy_view}
 use Rattle.policy.specs.declared.entries.Account.{Account}
 use Rattle.policy.specs.declared.policy.Policy.{Policy}
 use Rattle.decide.specs.View.{account_asked}
-use Rattle.std.specs.Fmt.{decimal}
-use Rattle.der.specs.Node.{encoding}
-use Rattle.tsp.specs.Rejection.{rejection}
 use Rattle.book.specs.declared.fault.StoreFault.{StoreFault}
 use Rattle.book.specs.declared.fault.StoreFault.TheVariants as store
-use Rattle.desk.specs.declared.fault.Fault.{Fault}
-use Rattle.desk.specs.declared.reply.Deposited.{Deposited}
-use Rattle.desk.specs.declared.reply.Reply.{Reply}
-use Rattle.desk.specs.declared.reply.Reply.TheVariants as reply
-use Rattle.service.specs.Answers.{AnswerValue, created, success, line_feed, refusal_answer}
-use Rattle.service.specs.Refusals.{refusal_of}
-use Rattle.service.specs.declared.answer.Media.TheVariants as media
+use Rattle.service.specs.Answers.{AnswerValue, created, refusal_answer}
 use Rattle.book.specs.Values.{calibration_view, hold_view}
 use Rattle.desk.specs.Batches.{stamp_for}
 use Rattle.desk.specs.Command.{Deposit, ListAll, Calibrate, Hold}
@@ -28,11 +18,10 @@ use Rattle.desk.specs.Together.{question_view}
 use Rattle.service.specs.Checks.{WantedValue}
 use Rattle.service.specs.Reports.{Seen}
 use Rattle.service.specs.Requests.{Asked, Step, Look, Extract, Status, OfAccount, asked_by, asked_of_deposit}
-use Rattle.service.specs.Routes.{parameter}
+use Rattle.service.specs.Routes.{segment}
 use Rattle.service.specs.Fields.{Stated, Never, Once, Twice}
 use Rattle.service.specs.Heads.{HeadValue}
 use Rattle.service.specs.Handlers.{RequestValue}
-use Rattle.service.specs.declared.answer.Media.{Media}
 use Rattle.service.specs.declared.checks.Found.{Found}
 use Rattle.service.specs.declared.checks.Found.TheVariants as found
 use Rattle.service.specs.declared.context.Context.{Context}
@@ -77,30 +66,6 @@ account_given result = result_by (λ a. account_view a.now) result
 abbrev pub account_found : Result (Option (Bor Account)) Refusal → Result (Option AccountValue) Refusal
 account_found result = result_by account_asked result
 
--- the answer of which a desk's answer is told
-abbrev pub stamp_answer : Reply → AnswerValue
-stamp_answer (reply.Granted serial bytes) = success 200 media.Reply bytes.items
-stamp_answer (reply.Rejected rejected) = success 200 media.Reply (encoding (rejection rejected.rule))
-
-abbrev pub status_kept : Bool → ℕ
-status_kept true = 201
-status_kept false = 200
-
--- a deposit's number, or why it isn't taken
-abbrev pub kept_answer : Result Deposited Fault → AnswerValue
-kept_answer (Ok deposited) = success (status_kept deposited.is_new) media.Text (decimal deposited.number ++ line_feed)
-kept_answer (Err fault) = refusal_answer (refusal_of fault)
-
--- the answer that shows octets, or why they aren't shown
-abbrev pub shown_answer : Media → Result (Vec ℕ Global) Fault → AnswerValue
-shown_answer m (Ok octets) = success 200 m octets.items
-shown_answer m (Err fault) = refusal_answer (refusal_of fault)
-
--- the answer where a right is given or taken, or the desk refuses it
-abbrev pub done_answer : Result (Unit {0}) Fault → AnswerValue
-done_answer (Ok done) = success 200 media.Text []
-done_answer (Err fault) = refusal_answer (refusal_of fault)
-
 -- the answer where a calibration or a hold is added, or the store refuses it
 abbrev pub added_answer : Result ℕ StoreFault → AnswerValue
 added_answer (Ok number) = created number
@@ -122,7 +87,7 @@ asked_view r (found.Stamp asked) = Step (stamp_for (question_view asked))
 asked_view r (found.Keep account reference) = Step (Deposit (account_view account.now) r.reading reference.now r.body)
 asked_view r (found.List account) = Step (ListAll (account_view account.now))
 asked_view r (found.Deposit what account number) =
-    asked_of_deposit (account_view account.now) number (parameter (codes "name") r.head.target) what
+    asked_of_deposit (account_view account.now) number (segment 4 r.head.target) what
 asked_view r (found.Extract account from to) = Look (Extract (account_view account.now) from to)
 asked_view r (found.Calibrate calibration) = Step (Calibrate (calibration_view calibration))
 asked_view r (found.Hold hold) = Step (Hold (hold_view hold))

@@ -1,7 +1,6 @@
 //! What an account may ask for, and what it has used of that.
 ghost use Rattle.std.specs.Prelude.{◌≡◌, ◌++◌, ℕ, codes, map, IfOk, IfSome, OnSome, string_bytes};
 ghost use Rattle.std.specs.List.{flat_map};
-ghost use Rattle.der.specs.ObjectIdentifier.{oid_text};
 ghost use Rattle.policy.specs.Kinds.{is_among};
 ghost use Rattle.policy.specs.View.{account_view, algorithm_view, extension_view, tsa_policy_view, policy_view};
 ghost use Rattle.book.specs.History.{History};

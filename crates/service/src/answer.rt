@@ -1,9 +1,9 @@
 //! The texts of answers (RFC 9112 4 and 6). None but a body takes memory.
-ghost use Rattle.std.specs.Prelude.{◌≡◌, ◌+◌, ◌≤◌, ◌++◌, length, Option, option_map, codes};
+ghost use Rattle.std.specs.Prelude.{◌≡◌, ◌+◌, ◌≤◌, ◌++◌, length, Option, option_map};
 ghost use Rattle.std.specs.Fmt.{decimal};
 ghost use Rattle.http.specs.StatusCode.{reason_phrase};
 ghost use Rattle.arrayvec.specs.ArrayString.{array_string_len};
-ghost use Rattle.service.specs.Answers.{phrase_of, media_type, status_line, content_lines, allow_line, head_text, crlf};
+ghost use Rattle.service.specs.Answers.{phrase_of, media_type, status_line, content_lines, allow_line, head_text};
 ghost use Rattle.service.specs.Routes.{and_name, names_of};
 
 use crate::routes::{Action, Methods};

@@ -1,11 +1,12 @@
 //! The checks of a whole request.
-ghost use Rattle.std.specs.Prelude.{◌≡◌};
+ghost use Rattle.std.specs.Prelude.{◌≡◌, codes, false, true};
 ghost use Rattle.policy.specs.View.{policy_view};
 ghost use Rattle.decide.specs.View.{account_asked};
 ghost use Rattle.desk.specs.Batches.{stamp_for};
 ghost use Rattle.desk.specs.Together.{question_view};
 ghost use Rattle.service.specs.Checks.{account_shown, active, active_account, number_stated, range_stated};
 ghost use Rattle.service.specs.Checks.{reference_stated, operator_shown, watcher_shown};
+ghost use Rattle.service.specs.Fields.{Twice, stated};
 ghost use Rattle.service.specs.Requests.{Step, asked_by};
 ghost use Rattle.service.specs.Views.{head_view, IsInPlace, octets_given, result_by, account_given, account_found};
 ghost use Rattle.service.specs.Views.{IsAskedBy};
@@ -19,7 +20,7 @@ use crate::form::{calibration_stated, hold_stated};
 use crate::head::Head;
 use crate::numbers::{is_reference, number_in};
 use crate::refusal::Refusal;
-use crate::routes::{Action, DepositAction, Routes};
+use crate::routes::{Action, DepositAction, segment};
 use crate::wanted::once;
 use book::{Calibration, Hold};
 use desk::Asked;
@@ -27,19 +28,19 @@ use policy::{Account, Policy};
 use std::str;
 
 /// The number in a target.
-fn number_stated(routes: &Routes, head: Head<'_>) -> Result<u64, Refusal>
+fn number_stated(head: Head<'_>) -> Result<u64, Refusal>
     ensures { result ≡ number_stated (head_view head.entry) }
 {
-    number_in(routes.parameter(head.target, "number").as_bytes()).ok_or(Refusal::NotHere)
+    number_in(segment(head.target, 2).as_bytes()).ok_or(Refusal::NotHere)
 }
 
 /// The two serial numbers in a target.
-fn range_stated(routes: &Routes, head: Head<'_>) -> Result<(u64, u64), Refusal>
+fn range_stated(head: Head<'_>) -> Result<(u64, u64), Refusal>
     ensures { result ≡ range_stated (head_view head.entry) }
 {
-    let from = number_in(routes.parameter(head.target, "from").as_bytes());
+    let from = number_in(segment(head.target, 2).as_bytes());
     let from = from.ok_or(Refusal::BadRange)?;
-    let to = number_in(routes.parameter(head.target, "to").as_bytes());
+    let to = number_in(segment(head.target, 3).as_bytes());
     let to = to.ok_or(Refusal::BadRange)?;
     Ok((from, to))
 }
@@ -54,6 +55,18 @@ fn account_shown<'a>(policy: &'a Policy, head: Head<'_>) -> Result<Option<&'a Ac
         Occurrence::Once(key) => Ok(policy.account_of_key(key)),
         Occurrence::Twice => Err(Refusal::BadRequest),
     }
+}
+
+/// Whether two keys are shown, or more.
+pub(crate) fn shows_keys(head: Head<'_>) -> bool
+    requires { IsInPlace head }
+    ensures twice { result ≡ true → stated (codes "counter-key") (head_view head.entry).fields ≡ Twice }
+    ensures once { result ≡ false → stated (codes "counter-key") (head_view head.entry).fields ≡ Twice → ⊥ }
+{
+    matches!(
+        stated(head.octets, head.headers, b"counter-key"),
+        Occurrence::Twice
+    )
 }
 
 /// The stamp that a head and its body ask for, at that moment.
@@ -189,7 +202,7 @@ fn deposit<'a>(
     ensures { IsAskedBy policy.now context.now (Deposit what) result }
 {
     let account = active_account(policy, context.head)?;
-    let number = number_stated(context.routes, context.head)?;
+    let number = number_stated(context.head)?;
     Ok(Found::Deposit(what, account, number))
 }
 
@@ -198,7 +211,7 @@ fn extract<'a>(policy: &'a Policy, context: &Context<'_>) -> Result<Found<'a>, R
     ensures { IsAskedBy policy.now context.now Extract result }
 {
     let account = active_account(policy, context.head)?;
-    let (from, to) = range_stated(context.routes, context.head)?;
+    let (from, to) = range_stated(context.head)?;
     Ok(Found::Extract(account, from, to))
 }
 

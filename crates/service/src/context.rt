@@ -1,27 +1,13 @@
 //! What a handler answers a request by.
 use crate::answer::Occasion;
 use crate::head::Head;
-use crate::routes::Routes;
 use std::alloc::Global;
 
-/// What one request is read and answered by, beside the desk and the signer.
+/// What a request is read and answered by, beside the desk and the signer.
 #[derive(Clone, Copy)]
 pub struct Surroundings {
-    /// What gives memory for the request and its answer.
+    /// What gives memory for a request and its answer.
     pub alloc: Global,
-    /// The clock's reading, in microseconds.
-    pub reading: i64,
-    /// The octets of the database's files when it was opened, if they are known.
-    pub octets: Option<u64>,
-}
-
-/// What requests are answered by, beside the desk and the signer.
-#[derive(Clone, Copy)]
-pub struct Environment<'r> {
-    /// What gives memory for an answer.
-    pub alloc: Global,
-    /// What requests may ask for.
-    pub routes: &'r Routes,
     /// The clock's reading, in microseconds.
     pub reading: i64,
     /// The octets of the database's files when it was opened, if they are known.
@@ -32,7 +18,6 @@ pub struct Environment<'r> {
 #[derive(Clone, Copy)]
 pub(crate) struct Context<'r> {
     pub(crate) alloc: Global,
-    pub(crate) routes: &'r Routes,
     pub(crate) octets: Option<u64>,
     pub(crate) at: Occasion,
     pub(crate) head: Head<'r>,

@@ -1,6 +1,7 @@
 //! A request and its answer.
-ghost use Rattle.std.specs.Prelude.{◌≡◌, ◌⊎◌, length, take, List, Option, ℕ, true, MatchOption};
+ghost use Rattle.std.specs.Prelude.{◌≡◌, ◌⊎◌, length, take, List, Option, ℕ, ℤ, true, IfSome, MatchBool, MatchOption};
 ghost use Rattle.std.specs.Io.KnownBytes.{Consumes, IsAtEnd};
+ghost use Rattle.policy.specs.Record.{PolicyValue};
 ghost use Rattle.policy.specs.View.{policy_view};
 ghost use Rattle.desk.specs.Answers.{reply_as};
 ghost use Rattle.desk.specs.Batches.{Question, stamp_for};
@@ -11,16 +12,17 @@ ghost use Rattle.service.specs.Known.{IsDue, IsDueAtEnd, IsDueInPlace};
 ghost use Rattle.service.specs.Received.{ReceivedValue, IsAll};
 ghost use Rattle.service.specs.Served.{Sends, Serves, TellsCut, TellsFailure, TellsFailureByRows};
 ghost use Rattle.service.specs.Stamps.{AsksStamp, AsksWhere, ReadsWhere};
-ghost use Rattle.service.specs.Views.{stamp_answer};
+ghost use Rattle.service.specs.Views.{IsInPlace};
 
 use crate::answer::Occasion;
-use crate::checks::stamp_asked;
-use crate::context::{Context, Environment, Surroundings};
+use crate::checks::{shows_keys, stamp_asked};
+use crate::context::{Context, Surroundings};
 use crate::due::Due;
 use crate::handlers::handle;
+use crate::head::Head;
 use crate::request::Request;
 use crate::responses::{out_of_memory, refuse, write_reply};
-use crate::routes::Routes;
+use crate::routes::{Action, Routes};
 use crate::served::Served;
 use audit::Output;
 use book::Book;
@@ -41,7 +43,7 @@ pub struct Exchanged {
 
 /// Gives a request what is due to it.
 fn give<W: Output, B: Book + Drop, G: Signer>(
-    environment: Environment<'_>,
+    surroundings: Surroundings,
     due: Due<'_>,
     desk: &mut Desk<'_, B>,
     signer: &mut G,
@@ -53,7 +55,7 @@ fn give<W: Output, B: Book + Drop, G: Signer>(
     ensures served { (steps : List Told) × ((r : ReceivedValue) → IsDue r due.entry
         → (before after : Option (List ℕ)) → Consumes before after (take r.taken r.octets)
         → (r.is_ended ≡ true → r.taken ≡ length r.octets → IsAtEnd after)
-        → Serves B.Standing G.signs G.fault_count W.contents environment.entry.reading (record {
+        → Serves B.Standing G.signs G.fault_count W.contents surroundings.reading (record {
           input = before;
           input_after = after;
           writer = writer.old;
@@ -65,21 +67,20 @@ fn give<W: Output, B: Book + Drop, G: Signer>(
         }) steps result) }
     ensures cut { IsDueAtEnd due.entry → TellsCut result }
     ensures failed { TellsFailure (W.failures writer.old) (W.failures writer.new) result
-        ⊎ ((r : ReceivedValue) → IsDue r due.entry → AsksWhere desk.old.setting.file environment.entry.reading
-        (TellsFailureByRows B.Standing W.contents W.failures environment.entry.reading writer.old writer.new desk.old
+        ⊎ ((r : ReceivedValue) → IsDue r due.entry → AsksWhere desk.old.setting.file surroundings.reading
+        (TellsFailureByRows B.Standing W.contents W.failures surroundings.reading writer.old writer.new desk.old
         desk.new result) r) }
 {
     let at = Occasion {
-        reading: environment.reading,
+        reading: surroundings.reading,
     };
     match due {
         Due::Nothing => Served::Closed,
         Due::Refusal(refusal) => refuse(writer, at, refusal),
         Due::Answer(action, head, body) => {
             let context = Context {
-                alloc: environment.alloc,
-                routes: environment.routes,
-                octets: environment.octets,
+                alloc: surroundings.alloc,
+                octets: surroundings.octets,
                 at,
                 head,
                 body,
@@ -94,7 +95,7 @@ impl Request {
     /// is refused: by status 400 where the input ended, and else, as there is no memory for them, by 503.
     pub fn serve<W: Output, B: Book + Drop, G: Signer>(
         &self,
-        environment: Environment<'_>,
+        surroundings: Surroundings,
         desk: &mut Desk<'_, B>,
         signer: &mut G,
         writer: &mut W,
@@ -104,7 +105,7 @@ impl Request {
         ensures served { (steps : List Told) × ((before after : Option (List ℕ))
             → Consumes before after (take self.now.taken self.now.octets)
             → (self.now.is_ended ≡ true → self.now.taken ≡ length self.now.octets → IsAtEnd after)
-            → Serves B.Standing G.signs G.fault_count W.contents environment.entry.reading (record {
+            → Serves B.Standing G.signs G.fault_count W.contents surroundings.reading (record {
               input = before;
               input_after = after;
               writer = writer.old;
@@ -118,13 +119,44 @@ impl Request {
         ensures cut { self.now.is_wanting ≡ true → self.now.is_ended ≡ true → TellsCut result.served }
 
         ensures failed { TellsFailure (W.failures writer.old) (W.failures writer.new) result.served
-            ⊎ AsksWhere desk.old.setting.file environment.entry.reading (TellsFailureByRows B.Standing W.contents
-            W.failures environment.entry.reading writer.old writer.new desk.old desk.new result.served) self.now }
+            ⊎ AsksWhere desk.old.setting.file surroundings.reading (TellsFailureByRows B.Standing W.contents
+            W.failures surroundings.reading writer.old writer.new desk.old desk.new result.served) self.now }
     {
         Exchanged {
-            served: give(environment, self.due(), desk, signer, writer),
+            served: give(surroundings, self.due(), desk, signer, writer),
             is_all: self.is_all(),
         }
+    }
+
+    /// Its head and its body, where it is whole and asks for a stamp. None where something else is due.
+    fn stamp_due(&self) -> Option<(Head<'_>, &[u8])>
+        ensures in_place { IfSome result (λ whole. IsInPlace whole.0) }
+        ensures due { MatchOption result
+            ((file : PolicyValue) (reading : ℤ) (asked : Question) → AsksStamp file reading self.now asked → ⊥)
+            (λ whole. IsDue self.now (Due.Answer Action.Stamp whole.0 whole.1)) }
+    {
+        let Due::Answer(action, head, body) = self.due() else {
+            return None;
+        };
+        if !action.is_stamp() {
+            return None;
+        }
+        Some((head, body))
+    }
+
+    /// Whether it asks for a stamp, by whatever policy file. No key is looked for in one.
+    pub fn asks_stamp(&self) -> bool
+        ensures { MatchBool result
+            ((file : PolicyValue) (reading : ℤ) → (asked : Question) × AsksStamp file reading self.now asked)
+            ((file : PolicyValue) (reading : ℤ) (asked : Question) → AsksStamp file reading self.now asked → ⊥) }
+    {
+        let Some((head, _)) = self.stamp_due() else {
+            return false;
+        };
+        if shows_keys(head) {
+            return false;
+        }
+        true
     }
 
     /// The stamp that it asks for, as `Desk::answer_each` takes it, where that is what is due to it: it is whole, and
@@ -134,20 +166,17 @@ impl Request {
             ((asked : Question) → AsksStamp (policy_view policy.now) reading self.now asked → ⊥)
             (λ asked. AsksStamp (policy_view policy.now) reading self.now (question_view asked)) }
     {
-        let Due::Answer(action, head, body) = self.due() else {
+        let Some((head, body)) = self.stamp_due() else {
             return None;
         };
-        if !action.is_stamp() {
-            return None;
-        }
         stamp_asked(policy, Occasion { reading }, head, body).ok()
     }
 
     /// Writes the reply to the stamp that it asks for, given at that reading.
     pub fn write_stamped<W: Output>(&self, reading: i64, reply: &Reply, writer: &mut W) -> Exchanged
-        ensures sent { Sends W.contents reading writer.old writer.new (stamp_answer reply.now) result.served }
+        ensures sent { (asked : Question) → Sends W.contents reading writer.old writer.new
+            (answer_to (stamp_for asked) (reply_as reply.now)) result.served }
         ensures failed { TellsFailure (W.failures writer.old) (W.failures writer.new) result.served }
-        ensures tells { (asked : Question) → stamp_answer reply.now ≡ answer_to (stamp_for asked) (reply_as reply.now) }
         ensures all { result.is_all ≡ true → IsAll self.now.octets }
     {
         Exchanged {
@@ -204,13 +233,7 @@ pub fn serve_over<R: Read, W: Output, B: Book + Drop, G: Signer>(
             Err(_) => return Served::ReadFailed,
         }
     }
-    let environment = Environment {
-        alloc,
-        routes: &routes,
-        reading: surroundings.reading,
-        octets: surroundings.octets,
-    };
-    request.serve(environment, desk, signer, writer).served
+    request.serve(surroundings, desk, signer, writer).served
 }
 
 /// Serves one request as `serve_over` does, of a database whose octets aren't known. The reading is the clock's, in

@@ -4,7 +4,7 @@ ghost use Rattle.policy.specs.View.{account_view, policy_view};
 ghost use Rattle.audit.specs.Inquiries.{Allows};
 ghost use Rattle.book.specs.History.{History};
 ghost use Rattle.book.specs.Stands.{OnlyLooks, Stands};
-ghost use Rattle.service.specs.ExtractAnswers.{SendingFails, SendsExtract, ServesExtract};
+ghost use Rattle.service.specs.auxiliary.ExtractAnswers.{SendingFails, SendsExtract, ServesExtract};
 ghost use Rattle.service.specs.Served.{TellsExtractFailure, TellsFailure};
 
 use crate::answer::{Heading, Media, head_text};

@@ -27,7 +27,7 @@ mod wanted;
 mod writes;
 
 pub use answer::Media;
-pub use context::{Environment, Surroundings};
+pub use context::Surroundings;
 pub use exchange::{Exchanged, serve_one, serve_over};
 pub use known::MOST_OCTETS;
 pub use laws::accounts_are_told_alike;

@@ -1,7 +1,6 @@
 //! The octets of a request, as they come.
-ghost use Rattle.std.specs.Prelude.{◌≡◌, ◌⊎◌, ℕ, ◌+◌, ◌<◌, ◌≤◌, List, [], length, take, true, false, IfOk, OnOk, OnErr};
-ghost use Rattle.std.specs.Prelude.{Option};
-ghost use Rattle.std.specs.Io.KnownBytes.{Consumes, IsAtEnd};
+ghost use Rattle.std.specs.Prelude.{◌≡◌, ◌+◌, ◌<◌, ◌≤◌, [], length, take, true, false, IfOk, OnOk, OnErr};
+ghost use Rattle.std.specs.Io.KnownBytes.{Consumes};
 ghost use Rattle.service.specs.Known.{Fills, IsDue, IsDueAtEnd, IsDueInPlace};
 ghost use Rattle.service.specs.Received.{IsAll, IsPartial, Receives, is_open, most, reads_left};
 

@@ -1,10 +1,14 @@
 //! Answers that are written.
-ghost use Rattle.std.specs.Prelude.{◌≡◌, ◌≤◌, ◌++◌, length, Option, option_map};
+ghost use Rattle.std.specs.Prelude.{◌≡◌, ◌≤◌, ◌++◌, length, option_map};
 ghost use Rattle.http.specs.StatusCode.{reason_phrase};
-ghost use Rattle.service.specs.Answers.{created, phrase_of, refusal_answer, success, unavailable};
+ghost use Rattle.desk.specs.Answers.{answered, reply_as};
+ghost use Rattle.desk.specs.Command.{Command};
+ghost use Rattle.desk.specs.Shown.{deposited_as, done_as, shown_as};
+ghost use Rattle.service.specs.Answers.{answer_to, created, media_shown, phrase_of, refusal_answer, success};
+ghost use Rattle.service.specs.Answers.{unavailable};
 ghost use Rattle.service.specs.Routes.{names_of};
 ghost use Rattle.service.specs.Served.{SendsText, Sends, TellsFailure};
-ghost use Rattle.service.specs.Views.{stamp_answer, status_kept, kept_answer, shown_answer, done_answer, added_answer};
+ghost use Rattle.service.specs.Views.{added_answer};
 
 use crate::answer::{Heading, Media, Occasion, head_text};
 use crate::lists::number_line;
@@ -100,7 +104,8 @@ pub(crate) fn succeed<W: Output>(writer: &mut W, at: Occasion, media: Media, bod
 
 /// Writes the reply to a time-stamp request.
 pub(crate) fn write_reply<W: Output>(writer: &mut W, at: Occasion, reply: &Reply) -> Served
-    ensures sent { Sends W.contents at.reading writer.old writer.new (stamp_answer reply.now) result }
+    ensures sent { (c : Command) → Sends W.contents at.reading writer.old writer.new (answer_to c (reply_as reply.now))
+        result }
     ensures failed { TellsFailure (W.failures writer.old) (W.failures writer.new) result }
 {
     match reply {
@@ -109,16 +114,14 @@ pub(crate) fn write_reply<W: Output>(writer: &mut W, at: Occasion, reply: &Reply
     }
 }
 
-/// The status that tells of a deposit: created, or there before.
-fn status_kept(is_new: bool) -> StatusCode
-    ensures value { result ≡ status_kept is_new }
-    ensures short { length (phrase_of (reason_phrase result)) ≤ 40 }
+/// Writes the answer that something is created under a number.
+fn create<W: Output>(writer: &mut W, at: Occasion, number: u64) -> Served
+    ensures sent { Sends W.contents at.reading writer.old writer.new (created number) result }
+    ensures failed { TellsFailure (W.failures writer.old) (W.failures writer.new) result }
 {
-    if is_new {
-        StatusCode::CREATED
-    } else {
-        StatusCode::OK
-    }
+    let line = number_line(number);
+    let octets = line.as_str().as_bytes();
+    tell(writer, at, StatusCode::CREATED, Media::Text, octets)
 }
 
 /// Writes the answer to a deposit: its number, or why it isn't taken.
@@ -127,14 +130,15 @@ pub(crate) fn write_deposited<W: Output>(
     at: Occasion,
     outcome: Result<Deposited, Fault>,
 ) -> Served
-    ensures sent { Sends W.contents at.reading writer.old writer.new (kept_answer outcome) result }
+    ensures sent { (c : Command) → Sends W.contents at.reading writer.old writer.new
+        (answer_to c (answered deposited_as outcome)) result }
     ensures failed { TellsFailure (W.failures writer.old) (W.failures writer.new) result }
 {
     match outcome {
+        Ok(deposited) if deposited.is_new => create(writer, at, deposited.number),
         Ok(deposited) => {
             let line = number_line(deposited.number);
-            let status = status_kept(deposited.is_new);
-            tell(writer, at, status, Media::Text, line.as_str().as_bytes())
+            succeed(writer, at, Media::Text, line.as_str().as_bytes())
         }
         Err(fault) => refuse(writer, at, Refusal::from(fault)),
     }
@@ -147,7 +151,8 @@ pub(crate) fn write_shown<W: Output>(
     media: Media,
     shown: Result<Vec<u8>, Fault>,
 ) -> Served
-    ensures sent { Sends W.contents at.reading writer.old writer.new (shown_answer media shown) result }
+    ensures sent { (c : Command) → media ≡ media_shown c → Sends W.contents at.reading writer.old writer.new
+        (answer_to c (answered shown_as shown)) result }
     ensures failed { TellsFailure (W.failures writer.old) (W.failures writer.new) result }
 {
     match shown {
@@ -162,23 +167,14 @@ pub(crate) fn write_done<W: Output>(
     at: Occasion,
     outcome: Result<(), Fault>,
 ) -> Served
-    ensures sent { Sends W.contents at.reading writer.old writer.new (done_answer outcome) result }
+    ensures sent { (c : Command) → Sends W.contents at.reading writer.old writer.new
+        (answer_to c (answered done_as outcome)) result }
     ensures failed { TellsFailure (W.failures writer.old) (W.failures writer.new) result }
 {
     match outcome {
         Ok(()) => succeed(writer, at, Media::Text, b""),
         Err(fault) => refuse(writer, at, Refusal::from(fault)),
     }
-}
-
-/// Writes the answer that something is created under a number.
-fn create<W: Output>(writer: &mut W, at: Occasion, number: u64) -> Served
-    ensures sent { Sends W.contents at.reading writer.old writer.new (created number) result }
-    ensures failed { TellsFailure (W.failures writer.old) (W.failures writer.new) result }
-{
-    let line = number_line(number);
-    let octets = line.as_str().as_bytes();
-    tell(writer, at, StatusCode::CREATED, Media::Text, octets)
 }
 
 /// Writes the answer where a calibration or a hold is added: its number, or why it isn't.

@@ -2,8 +2,7 @@
 ghost use Rattle.std.specs.Prelude.{◌≡◌, map, Option, IfOk, OnOk};
 ghost use Rattle.std.specs.Str.{bytes_eq};
 ghost use Rattle.book.specs.Entries.{reader_view};
-ghost use Rattle.service.specs.Routes.{line_view, table, with_route, routes, methods_at, parameter, action_of};
-ghost use Rattle.service.specs.Routes.{reader_of};
+ghost use Rattle.service.specs.Routes.{line_view, table, with_route, routes, methods_at, action_of, reader_of, segment};
 
 use book::Reader;
 use desk::Change;
@@ -194,18 +193,15 @@ impl Routes {
     {
         Some(*self.router.at(target).ok()?.value)
     }
+}
 
-    /// What a name in its route's text took of a target, as it was sent. It is empty where no route has the target, or
-    /// its route no such name.
-    pub(crate) fn parameter<'t>(&self, target: &'t str, name: &str) -> &'t str
-        ensures { result.now ≡ parameter name.now target.now }
-    {
-        match self.router.at(target) {
-            Ok(found) => match found.params.get(name) {
-                Some(value) => value,
-                None => "",
-            },
-            Err(_) => "",
-        }
+/// The segment of a target at a place, as it was sent: what stands between slashes, and before the first of them at 0.
+/// It is empty where there is none.
+pub(crate) fn segment(target: &str, place: usize) -> &str
+    ensures { result.now ≡ segment place target.now }
+{
+    match target.split('/').nth(place) {
+        Some(segment) => segment,
+        None => "",
     }
 }

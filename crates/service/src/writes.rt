@@ -16,7 +16,7 @@ pub(crate) fn write_both<W: Output>(writer: &mut W, text: &[u8], octets: &[u8]) 
     ensures cut { result < length (text.now ++ octets.now) → HasFailed (W.failures writer.old) (W.failures writer.new) }
     ensures kept { result ≡ length (text.now ++ octets.now) → W.failures writer.new ≡ W.failures writer.old }
 {
-    let mut both: ArrayVec<u8, 2048> = ArrayVec::new();
+    let mut both: ArrayVec<u8, 8192> = ArrayVec::new();
     if both.try_extend_from_slice(text).is_ok() && both.try_extend_from_slice(octets).is_ok() {
         return write_octets(writer, both.as_slice());
     }

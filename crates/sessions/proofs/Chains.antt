@@ -10,7 +10,7 @@ use Rattle.cms.proofs.SignedEach.{signs_then}
 use Rattle.sessions.specs.ReconnectingSigner.{ReconnectingState, AsksSession, IsTaken, SignsRenewed, SendsRenewed, Stands}
 use Rattle.sessions.specs.ReconnectingSigner.{AwaitsRenewed, asks, refused, abandoned, nothing, hands, told, lost, both}
 use Rattle.sessions.specs.ReconnectingSigner.{still, taken, sent, gone}
-use Rattle.sessions.specs.RenewedLaws.{all_signed}
+use Rattle.sessions.specs.auxiliary.RenewedLaws.{all_signed}
 
 -- a session that was taken and put back is asked as if it had just been taken
 pub asked_once : {S O : Type 0} (signs : S → List ℕ → Result (List ℕ) SignerFault → S → Type 0) (fresh : S → Type 0)

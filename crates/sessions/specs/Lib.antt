@@ -1,3 +1,3 @@
 pub mod Notices
 pub mod ReconnectingSigner
-pub mod RenewedLaws
+pub mod auxiliary

@@ -1,5 +1,5 @@
 //! A signer whose session is opened anew where it was lost.
-ghost use Rattle.std.specs.Prelude.{◌≡◌, ◌∷◌, [], List, ℕ, Option, IfSome};
+ghost use Rattle.std.specs.Prelude.{◌≡◌, ◌∷◌, [], Option, IfSome};
 
 use cms::{Algorithm, AnswerRoom, Pipeline, Signer, SignerFault};
 use std::alloc::Global;
@@ -74,8 +74,8 @@ impl<S: Pipeline + Drop, O: Sessions<S>> ReconnectingSigner<S, O> {
     ghost use Rattle.cms.specs.declared.signer.SignerFault.TheVariants.{Failed};
     ghost use Rattle.sessions.specs.ReconnectingSigner.{IsTaken, SignsRenewed, SendsRenewed};
 
-    /// A signer of that algorithm with an open session, and what opens others. It keeps the allocator for room. Takes no
-    /// memory.
+    /// A signer of that algorithm with an open session, and what opens others. It keeps the allocator for room. Takes
+    /// no memory.
     pub fn new(
         alloc: Global,
         sessions: O,
@@ -172,7 +172,7 @@ impl<S: Pipeline + Drop, O: Sessions<S>> ReconnectingSigner<S, O> {
 
 impl<S: Pipeline + Drop, O: Sessions<S>> Signer for ReconnectingSigner<S, O> {
     ghost use Rattle.sessions.specs.ReconnectingSigner.{SignsRenewed, SendsRenewed, AwaitsRenewed, both};
-    ghost use Rattle.sessions.specs.RenewedLaws.{sends_nothing, all_signed};
+    ghost use Rattle.sessions.specs.auxiliary.RenewedLaws.{sends_nothing, all_signed};
 
     ghost signs = { SignsRenewed S.signs O.fresh };
 

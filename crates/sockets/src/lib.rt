@@ -9,5 +9,6 @@ pub use duplex::Duplex;
 pub use listener::Listener;
 pub use stream::Stream;
 
-/// How an address begins that is the path of a Unix socket. Any other is a host's name or an IP address, `:` and a port.
+/// How an address begins that is the path of a Unix socket. Any other is a host's name or an IP address, `:` and a
+/// port.
 pub(crate) const UNIX: &str = "unix:";

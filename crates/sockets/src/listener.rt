@@ -47,8 +47,8 @@ fn bind_unix<R: Net + Files>(rt: &R, path: &str) -> io::Result<UnixListener> {
 impl Listener {
     /// Listens at an address: an IP address or a host's name, `:` and a port; or `unix:` and the path of a file, which
     /// is made, and by whose permissions the system tells who may connect. An error where the address is none, where it
-    /// is taken, and where another file stands at the path, or a socket at which somebody listens. A socket that is left
-    /// of a process that has ended is replaced.
+    /// is taken, and where another file stands at the path, or a socket at which somebody listens. A socket that is
+    /// left of a process that has ended is replaced.
     pub fn bind<R: Net<Stream = TcpStream, Listener = TcpListener> + Files>(
         rt: &R,
         address: &str,

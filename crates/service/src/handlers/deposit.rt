@@ -1,16 +1,16 @@
 //! `/deposits/{number}`, and what is below it: the octets of a deposit, its token, and who may see it.
-ghost use Rattle.std.specs.Prelude.{◌≡◌, codes, Ok};
+ghost use Rattle.std.specs.Prelude.{◌≡◌, Ok};
 ghost use Rattle.policy.specs.View.{account_view};
 ghost use Rattle.service.specs.Handlers.{Handles};
 ghost use Rattle.service.specs.Requests.{asked_of_deposit};
-ghost use Rattle.service.specs.Routes.{parameter};
+ghost use Rattle.service.specs.Routes.{segment};
 ghost use Rattle.service.specs.Served.{TellsFailure};
 
 use crate::answer::Media;
 use crate::context::Context;
 use crate::readers::serve_readers;
 use crate::responses::{write_done, write_shown};
-use crate::routes::DepositAction;
+use crate::routes::{DepositAction, segment};
 use crate::served::Served;
 use audit::Output;
 use book::Book;
@@ -32,12 +32,12 @@ pub(crate) fn answer<W: Output, B: Book + Drop, G: Signer>(
     ensures honest { B.honest desk.new.store → B.honest desk.old.store }
     ensures served { Handles B.Standing G.signs G.fault_count W.contents context.now.at.reading
         (Ok (asked_of_deposit (account_view account.now) number
-        (parameter (codes "name") context.now.head.target.now) what))
+        (segment 4 context.now.head.target.now) what))
         writer.old writer.new desk.old desk.new _signer.old _signer.new result }
     ensures failed { TellsFailure (W.failures writer.old) (W.failures writer.new) result }
 {
     let at = context.at;
-    let name = context.routes.parameter(context.head.target, "name");
+    let name = segment(context.head.target, 4);
     match what {
         DepositAction::Show => {
             let shown = desk.show(account, number);

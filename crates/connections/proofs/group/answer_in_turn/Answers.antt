@@ -1,22 +1,15 @@
-use Rattle.std.proofs.Common.{◌≡◌, ◌∙◌, [], ◌∷◌, ◌++◌, length, map, ap, arith, subst, sym}
+use Rattle.std.proofs.Common.{◌≡◌, ◌∙◌, [], ◌∷◌, ◌++◌, length, map, ap, arith, sym}
 use Rattle.std.proofs.lemmas.List.{append-nil, append_assoc}
 use Rattle.std.specs.Vec.Iter.{into_iter_items}
-use Rattle.connections.specs.Gathering.{handed_view}
-use Rattle.connections.specs.Heard.{AreAnswered, hall}
+use Rattle.connections.specs.auxiliary.Gathering.{handed_view}
 use Rattle.connections.proofs.GroupLemmas.{none_answered, all_answered, none_left}
 use Rattle.connections.proofs.group.answer_in_turn.Goals as goal
 
 pub loop-one-init : goal.loop-one-init
 loop-one-init g c =
     let is : into_iter_items c.into_iter-one-iterator.result ≡ c.args.ones.items =
-    c.into_iter-one-iterator.ensures.into_iter_gives.0 in (
-      [],
-      (
-        ap (map handed_view) (sym is),
-        none_answered g.L.Hearing.takes_back g.L.Stream.Write.contents g.B.Standing g.G.Signer.signs
-            g.G.Signer.fault_count (hall c.args.hearing.now (tt {0}) c.args.desk.now c.args.signer.now),
-      ),
-    )
+    c.into_iter-one-iterator.ensures.into_iter_gives.0 in
+    ([], (ap (map handed_view) (sym is), none_answered _ _ _ _ _ _))
 
 pub loop-one-preserved : goal.loop-one-preserved
 loop-one-preserved g c =
@@ -27,12 +20,7 @@ loop-one-preserved g c =
         inv.1.0
             ∙ (ap (λ xs. inv.0 ++ map handed_view xs) c.in-Some.ensures.steps.0
             ∙ sym (append_assoc inv.0 (one ∷ []) (map handed_view (into_iter_items c.next.new.self)))),
-        all_answered g.L.Hearing.takes_back g.L.Stream.Write.contents g.B.Standing g.G.Signer.signs
-            g.G.Signer.fault_count inv.0 (one ∷ [])
-            (hall c.args.hearing.now (tt {0}) c.args.desk.now c.args.signer.now)
-            (hall c.loop-one.hearing (tt {0}) c.loop-one.desk c.loop-one.signer)
-            (hall c.answer_one.new.hearing (tt {0}) c.answer_one.new.desk c.answer_one.new.signer) inv.1.1
-            c.answer_one.ensures,
+        all_answered _ _ _ _ _ inv.0 (one ∷ []) _ _ _ inv.1.1 c.answer_one.ensures,
       ),
     )
 
@@ -43,6 +31,4 @@ returns g c =
     let none : length rest ≡ 0 = omega (arith, c.loop-one.one-iterator.rest.ok.0, c.in-None.ensures.steps.0) in
     let all : inv.0 ≡ map handed_view c.args.ones.items =
     sym (inv.1.0 ∙ (ap (λ xs. inv.0 ++ map handed_view xs) (none_left rest none) ∙ append-nil inv.0)) in
-    subst (λ xs. AreAnswered g.L.Hearing.takes_back g.L.Stream.Write.contents g.B.Standing g.G.Signer.signs
-    g.G.Signer.fault_count xs (hall c.args.hearing.now (tt {0}) c.args.desk.now c.args.signer.now)
-    (hall c.loop-one.hearing (tt {0}) c.loop-one.desk c.loop-one.signer)) all inv.1.1
+    rw all at inv.1.1

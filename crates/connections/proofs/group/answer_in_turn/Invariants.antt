@@ -1,6 +1,6 @@
 use Rattle.std.proofs.Common.{◌≡◌, List, ◌++◌, map}
 use Rattle.std.specs.Vec.Iter.{into_iter_items}
-use Rattle.connections.specs.Gathering.{handed_view}
+use Rattle.connections.specs.auxiliary.Gathering.{handed_view}
 use Rattle.connections.specs.Heard.{AreAnswered, hall}
 use Rattle.connections.specs.Parts.{HandedValue}
 use Rattle.connections.proofs.group.answer_in_turn.Given as goal

@@ -1,6 +1,6 @@
 use Rattle.std.proofs.Common.{◌≡◌, ◌≤◌, length, map, take, vec_capacity, vec_len}
 use Rattle.desk.specs.Together.{questions_view}
-use Rattle.connections.specs.Gathering.{AreAsked, handed_view}
+use Rattle.connections.specs.auxiliary.Gathering.{AreAsked, handed_view}
 use Rattle.connections.proofs.group.replies_to.Given as goal
 
 abbrev pub invariant-loop-one : goal.invariant-loop-one

@@ -1,21 +1,17 @@
-use Rattle.std.proofs.Common.{◌≡◌, ◌∙◌, ◌+◌, [], ◌∷◌, ◌++◌, length, map, take, get_or, ap, arith, rules, subst}
+use Rattle.std.proofs.Common.{◌≡◌, ◌∙◌, ◌+◌, [], ◌∷◌, ◌++◌, length, map, take, get_or, ap, arith, rules}
 use Rattle.std.proofs.Common.{sym, SFits, w64, to_z-of_z}
 use Rattle.std.proofs.lemmas.List.{length-map, length-take-le, map-append, take_all, take_more}
 use Rattle.std.specs.Vec.Iter.{into_iter_items}
 use Rattle.desk.specs.Answers.{reply_as}
-use Rattle.service.specs.Served.{Sends}
-use Rattle.service.specs.Views.{stamp_answer}
-use Rattle.connections.specs.Gathering.{handed_view}
-use Rattle.connections.proofs.GroupLemmas.{Wrote, left_to_write, wrote_none, wrote_more, wrote_all}
+use Rattle.connections.specs.auxiliary.Gathering.{handed_view}
+use Rattle.connections.proofs.GroupLemmas.{left_to_write, wrote_none, wrote_more, wrote_all}
 use Rattle.connections.proofs.group.write_each.Goals.{in-Some, in_default}
 use Rattle.connections.proofs.group.write_each.Goals as goal
 
 pub loop-reply-init : goal.loop-reply-init
 loop-reply-init g c = record {
   many = c.into_iter-rest.ensures.len ∙ (c.args.stamps.ok.0 ∙ ap length (sym c.into_iter-rest.ensures.rest));
-  wrote = wrote_none g.L.Hearing.takes_back g.L.Stream.Write.contents (map handed_view c.args.stamps.items)
-      (map handed_view (into_iter_items c.into_iter-rest.result)) c.args.hearing.now
-      (ap (map handed_view) (sym c.into_iter-rest.ensures.rest));
+  wrote = wrote_none _ _ _ _ _ (ap (map handed_view) (sym c.into_iter-rest.ensures.rest));
 }
 
 pub loop-reply-preserved : goal.loop-reply-preserved
@@ -24,8 +20,6 @@ loop-reply-preserved g c =
     let i = c.loop-reply.reply-index in
     let reply = c.reply-item.result in
     let told = take i c.args.replies.now in
-    let all = map handed_view c.args.stamps.items in
-    let rest = map handed_view (into_iter_items c.loop-reply.rest) in
     let replies : map reply_as (take (i + 1) c.args.replies.now) ≡ map reply_as told ++ (reply_as reply ∷ []) =
     ap (map reply_as) (take_more c.args.replies.now i reply c.loop-reply-test.true)
     ∙ (map-append reply_as told (get_or c.args.replies.now i reply ∷ [])
@@ -34,33 +28,21 @@ loop-reply-preserved g c =
       | in-Some w ↦
           let one = w.in-Some.one in
           let exchanged = w.write_stamped-exchanged in
-          let others = map handed_view (into_iter_items c.next.new.self) in
           let fits : SFits w64 one.reading = search rules in
           record {
             many = omega (arith, inv.many, w.in-Some.ensures.cases.1, ap length w.in-Some.ensures.cases.0);
-            wrote = subst (λ h. Wrote g.L.Hearing.takes_back g.L.Stream.Write.contents all others
-                (map reply_as (take (i + 1) c.args.replies.now)) c.args.hearing.now h) (sym w.hearing-is)
-                (subst (λ rs. Wrote g.L.Hearing.takes_back g.L.Stream.Write.contents all others rs c.args.hearing.now
-                w.take_back.new.self) (sym replies)
-                (wrote_more g.L.Hearing.takes_back g.L.Stream.Write.contents all rest (map reply_as told)
-                c.args.hearing.now c.loop-reply.hearing inv.wrote
+            wrote = rw (w.hearing-is, replies)
+                (wrote_more _ _ _ _ _ _ _ inv.wrote
                 (record {
                   handed = handed_view one;
                   stream_after = exchanged.new.writer;
                   exchanged = exchanged.result;
-                }) others (reply_as reply) w.take_back.new.self
-                (ap (map handed_view) w.in-Some.ensures.cases.0)
-                (record {
-                  sent = λ asked. subst (λ a. Sends g.L.Stream.Write.contents one.reading one.stream
-                      exchanged.new.writer a exchanged.result.served) (exchanged.ensures.tells asked)
-                      (subst (λ r. Sends g.L.Stream.Write.contents r one.stream exchanged.new.writer
-                      (stamp_answer reply) exchanged.result.served) (to_z-of_z fits) exchanged.ensures.sent);
-                  all = exchanged.ensures.all;
-                }) w.take_back.ensures));
+                }) _ (reply_as reply) w.take_back.new.self (ap (map handed_view) w.in-Some.ensures.cases.0)
+                (record { sent = rw (to_z-of_z fits) at exchanged.ensures.sent; all = exchanged.ensures.all })
+                w.take_back.ensures);
           }
       | in_default w ↦
-          let left = left_to_write g.L.Hearing.takes_back g.L.Stream.Write.contents all rest (map reply_as told)
-          c.args.hearing.now c.loop-reply.hearing inv.wrote in
+          let left = left_to_write _ _ _ _ _ _ _ inv.wrote in
           absurd (omega (
             arith,
             left,
@@ -77,16 +59,11 @@ loop-reply-preserved g c =
 
 pub returns : goal.returns
 returns g c =
-    let all = map handed_view c.args.stamps.items in
-    let replies = map reply_as c.args.replies.now in
-    let wrote = subst (λ rs. Wrote g.L.Hearing.takes_back g.L.Stream.Write.contents all
-    (map handed_view (into_iter_items c.loop-reply.rest)) (map reply_as rs) c.args.hearing.now c.loop-reply.hearing)
-    (take_all c.loop-reply.reply-index c.args.replies.now c.loop-reply-test.false) c.loop-reply.invariant.wrote in
-    wrote_all g.L.Hearing.takes_back g.L.Stream.Write.contents all
-    (map handed_view (into_iter_items c.loop-reply.rest)) replies c.args.hearing.now c.loop-reply.hearing
+    wrote_all _ _ _ _ _ _ _
     (omega (
       arith,
       c.requires.as_many,
       length-map c.args.stamps.items handed_view,
       length-map c.args.replies.now reply_as,
-    )) wrote
+    ))
+    (rw (take_all c.loop-reply.reply-index c.args.replies.now c.loop-reply-test.false) at c.loop-reply.invariant.wrote)

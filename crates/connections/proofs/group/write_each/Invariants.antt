@@ -1,7 +1,7 @@
 use Rattle.std.proofs.Common.{◌≡◌, length, map, take}
 use Rattle.std.specs.Vec.Iter.{into_iter_items, into_iter_len}
 use Rattle.desk.specs.Answers.{reply_as}
-use Rattle.connections.specs.Gathering.{handed_view}
+use Rattle.connections.specs.auxiliary.Gathering.{handed_view}
 use Rattle.connections.proofs.GroupLemmas.{Wrote}
 use Rattle.connections.proofs.group.write_each.Given as goal
 

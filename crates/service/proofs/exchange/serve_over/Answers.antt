@@ -1,4 +1,4 @@
-use Rattle.std.proofs.Common.{◌≡◌, ◌∙◌, ℤ, List, [], ℕ, ap, arith, inl, inr, length, refl, rules, subst, sym, take, true}
+use Rattle.std.proofs.Common.{◌≡◌, ◌∙◌, List, [], ℕ, ap, arith, inl, inr, length, refl, rules, subst, sym, take, true}
 use Rattle.std.proofs.Common.{false}
 use Rattle.std.proofs.Common.{SFits, w64, to_z-of_z}
 use Rattle.std.proofs.KnownBytes.{Consumes-nil, Consumes-trans}
@@ -6,37 +6,28 @@ use Rattle.std.proofs.lemmas.List.{append-nil, take_all}
 use Rattle.std.specs.Io.KnownBytes.{Consumes}
 use Rattle.service.specs.Received.{is_open}
 use Rattle.service.specs.Requests.{nothing}
-use Rattle.service.specs.Answers.{unavailable}
-use Rattle.service.specs.Served.{Sends, Serves, TellsFailureByRows}
-use Rattle.service.specs.Stamps.{ReadsWhere}
 use Rattle.service.proofs.RequestLemmas.{open_parts}
-use Rattle.service.proofs.ServingLemmas.{failing, turn, wanting_early}
+use Rattle.service.proofs.ServingLemmas.{failing, wanting_early}
 use Rattle.service.proofs.exchange.serve_over.Goals as goal
 
 pub returns-in_default-clause-served : goal.returns-in_default-clause-served
 returns-in_default-clause-served g c =
-    let fits : SFits w64 c.args.surroundings.reading = search rules in
-    let P : ℤ → Type 0 = λ at. Sends g.W.Write.contents at c.args.writer.now c.out_of_memory.new.writer unavailable
-    c.out_of_memory.result in (
+    let fits : SFits w64 c.args.surroundings.reading = search rules in (
       [],
-      wanting_early g.B.Standing g.G.Signer.signs g.G.Signer.fault_count g.W.Write.contents
-          c.args.surroundings.reading
-          (turn (g.R.Read.remaining c.args.reader.now) (g.R.Read.remaining c.args.reader.now) c.args.writer.now
-          c.out_of_memory.new.writer c.args.desk.now c.args.desk.now c.args.signer.now c.args.signer.now)
-          c.out_of_memory.result (nothing (Consumes-nil _)) (record { desk = refl; signer = refl })
-          (subst P (to_z-of_z fits) c.out_of_memory.ensures.sent),
+      wanting_early _ _ _ _ _ _ c.out_of_memory.result (nothing (Consumes-nil _)) (record {
+        desk = refl;
+        signer = refl;
+      })
+          (rw (to_z-of_z fits) at c.out_of_memory.ensures.sent),
     )
 
 pub returns-in-Err-clause-served : goal.returns-in-Err-clause-served
 returns-in-Err-clause-served g c =
     let octets = c.reading.request.octets in
-    let before = g.R.Read.remaining c.args.reader.now in
-    let after = g.R.Read.remaining c.read.new.reader in
-    let C : List ℕ → Type 0 = λ l. Consumes before after l in (
+    let C : List ℕ → Type 0 = λ l. Consumes (g.R.Read.remaining c.args.reader.now) (g.R.Read.remaining
+    c.read.new.reader) l in (
       [],
-      failing g.B.Standing g.G.Signer.signs g.G.Signer.fault_count g.W.Write.contents c.args.surroundings.reading
-          (turn before after c.args.writer.now c.args.writer.now c.args.desk.now c.args.desk.now c.args.signer.now
-          c.args.signer.now)
+      failing _ _ _ _ _ _
           (record {
             octets = octets;
             is = c.in-Err.ensures.partial;
@@ -67,16 +58,10 @@ returns-clause-served g c =
     let closed : is_open r ≡ false = sym c.is_open.ensures ∙ c.reading-test.false in
     let all : take r.taken r.octets ≡ r.octets =
     ap (λ n. take n r.octets) (c.reading.invariant.exact closed) ∙ take_all (length r.octets) r.octets (omega arith) in
-    let C : List ℕ → Type 0 = λ l. Consumes before after l in
-    let fits : SFits w64 c.args.surroundings.reading = search rules in
-    let steps = c.serve.ensures.served.0 in
-    let P : ℤ → Type 0 = λ at. Serves g.B.Standing g.G.Signer.signs g.G.Signer.fault_count g.W.Write.contents at
-    (turn before after c.args.writer.now c.serve.new.writer c.args.desk.now c.serve.new.desk c.args.signer.now
-    c.serve.new.signer) steps c.serve.result.served in (
-      steps,
-      subst P (to_z-of_z fits)
-          (c.serve.ensures.served.1 before after (subst C (sym all) c.reading.invariant.consumed)
-          (λ ended some. c.reading.invariant.ended ended)),
+    let C : List ℕ → Type 0 = λ l. Consumes before after l in (
+      c.serve.ensures.served.0,
+      c.serve.ensures.served.1 before after (subst C (sym all) c.reading.invariant.consumed)
+          (λ ended some. c.reading.invariant.ended ended),
     )
 
 pub returns-clause-failed : goal.returns-clause-failed
@@ -88,11 +73,7 @@ returns-clause-failed g c =
     let all : take r.taken r.octets ≡ r.octets =
     ap (λ n. take n r.octets) (c.reading.invariant.exact closed) ∙ take_all (length r.octets) r.octets (omega arith) in
     let C : List ℕ → Type 0 = λ l. Consumes before after l in
-    let fits : SFits w64 c.args.surroundings.reading = search rules in
-    let P : ℤ → Type 0 = λ at. ReadsWhere c.args.desk.now.setting.file at
-    (TellsFailureByRows g.B.Standing g.W.Write.contents g.W.Output.failures at c.args.writer.now c.serve.new.writer
-    c.args.desk.now c.serve.new.desk c.serve.result.served) before after in
     elim c.serve.ensures.failed [
       | inl tells ↦ inl tells
-      | inr rows ↦ inr (subst P (to_z-of_z fits) (rows before after (subst C (sym all) c.reading.invariant.consumed)))
+      | inr rows ↦ inr (rows before after (subst C (sym all) c.reading.invariant.consumed))
     ]

@@ -5,9 +5,7 @@ use Rattle.service.proofs.handlers.handle.Goals as goal
 
 pub returns-in-Ok-clause-served : goal.returns-in-Ok-clause-served
 returns-in-Ok-clause-served g c =
-    handled g.B.Standing g.G.Signer.signs g.G.Signer.fault_count g.W.Write.contents c.args.context.now.at.reading
-    c.args.writer.now c.answer.new.writer c.args.desk.now c.answer.new.desk c.args.signer.now c.answer.new.signer
-    c.answer.result _ _ (rw c.policy.ensures at c.in-Ok.ensures) c.answer.ensures.served
+    handled _ _ _ _ _ _ _ _ _ _ _ _ _ _ (rw c.policy.ensures at c.in-Ok.ensures) c.answer.ensures.served
 
 pub returns-in-Ok-clause-failed : goal.returns-in-Ok-clause-failed
 returns-in-Ok-clause-failed g c =
@@ -21,9 +19,5 @@ returns-in-Ok-clause-failed g c =
 
 pub returns-in-Err-clause-served : goal.returns-in-Err-clause-served
 returns-in-Err-clause-served g c =
-    handled g.B.Standing g.G.Signer.signs g.G.Signer.fault_count g.W.Write.contents c.args.context.now.at.reading
-    c.args.writer.now c.refuse.new.writer c.args.desk.now c.args.desk.now c.args.signer.now c.args.signer.now
-    c.refuse.result _ (Err c.in-Err.refusal) (rw c.policy.ensures at c.in-Err.ensures)
-    (refused g.B.Standing g.G.Signer.signs g.G.Signer.fault_count g.W.Write.contents c.args.context.now.at.reading
-    c.args.writer.now c.refuse.new.writer c.args.desk.now c.args.desk.now c.args.signer.now c.args.signer.now
-    c.refuse.result c.in-Err.refusal refl refl c.refuse.ensures.sent)
+    handled _ _ _ _ _ _ _ _ _ _ _ _ _ (Err c.in-Err.refusal) (rw c.policy.ensures at c.in-Err.ensures)
+    (refused _ _ _ _ _ _ _ _ _ _ _ _ c.in-Err.refusal refl refl c.refuse.ensures.sent)

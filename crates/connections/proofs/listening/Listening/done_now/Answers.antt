@@ -1,22 +1,16 @@
-use Rattle.std.proofs.Common.{None, refl}
+use Rattle.std.proofs.Common.{refl}
 use Rattle.connections.specs.Places.{AreWaitedFor}
 use Rattle.connections.specs.Waiting.{intake}
 use Rattle.connections.proofs.PlacesLemmas.{comes_done, waits_added, waits_none, waits_same, waits_then}
 use Rattle.connections.proofs.listening.Listening.done_now.Goals as goal
 
 pub returns-in_default : goal.returns-in_default
-returns-in_default g c =
-    waits_none g.A.Acceptor.tells g.R.Timer.shows g.A.Stream.Read.remaining g.A.Stream.Connection.fails c.args.most
-    (intake c.args.self.now.acceptor c.args.self.now.places)
+returns-in_default g c = waits_none _ _ _ _ _ _
 
 pub returns-in-Some : goal.returns-in-Some
 returns-in-Some g c =
-    let old = intake c.args.self.now.acceptor c.args.self.now.places in
-    let taken = intake c.take.new.self.acceptor c.take.new.self.places in
-    comes_done g.A.Acceptor.tells g.R.Timer.shows g.A.Stream.Read.remaining g.A.Stream.Connection.fails c.args.most
-    _ c.in-Ok.ensures old taken (intake c.take.new.self.acceptor c.take_done.new.self)
-    (waits_added g.A.Acceptor.tells g.R.Timer.shows g.A.Stream.Read.remaining g.A.Stream.Connection.fails
-    c.args.most old taken (c.take.ensures.added c.if-take.false).0) refl c.in-Some.done c.in-Some.ensures
+    comes_done _ _ _ _ _ _ c.in-Ok.ensures _ _ (intake c.take.new.self.acceptor c.take_done.new.self)
+    (waits_added _ _ _ _ _ _ _ (c.take.ensures.added c.if-take.false).0) refl c.in-Some.done c.in-Some.ensures
 
 pub returns-then-give_up : goal.returns-then-give_up
 returns-then-give_up g c =
@@ -36,7 +30,6 @@ pub returns : goal.returns
 returns g c =
     let old = intake c.args.self.now.acceptor c.args.self.now.places in
     let read = intake c.take.new.self.acceptor c.take_done.new.self in
-    let given = intake c.give_up.new.self.acceptor c.give_up.new.self.places in
     let waited : AreWaitedFor g.A.Acceptor.tells g.R.Timer.shows g.A.Stream.Read.remaining
     g.A.Stream.Connection.fails c.args.most old read = record {
       between = intake c.take.new.self.acceptor c.take.new.self.places;
@@ -44,10 +37,6 @@ returns g c =
       read = c.in_default-take_done.ensures;
       same = refl;
     } in
-    waits_same g.A.Acceptor.tells g.R.Timer.shows g.A.Stream.Read.remaining g.A.Stream.Connection.fails c.args.most
-    old given (intake c.close_some.new.self.acceptor c.close_some.new.self.places)
-    (waits_then g.A.Acceptor.tells g.R.Timer.shows g.A.Stream.Read.remaining g.A.Stream.Connection.fails c.args.most
-    old read given waited
-    (waits_added g.A.Acceptor.tells g.R.Timer.shows g.A.Stream.Read.remaining g.A.Stream.Connection.fails c.args.most
-    read given (c.give_up.ensures.added c.if-give_up.false))) c.close_some.ensures.acceptor
-    c.close_some.ensures.places
+    waits_same _ _ _ _ _ _ _ (intake c.close_some.new.self.acceptor c.close_some.new.self.places)
+    (waits_then _ _ _ _ _ _ _ _ waited (waits_added _ _ _ _ _ _ _ (c.give_up.ensures.added c.if-give_up.false)))
+    c.close_some.ensures.acceptor c.close_some.ensures.places

@@ -7,37 +7,27 @@ use Rattle.connections.proofs.PlacesLemmas.{waits_added}
 use Rattle.connections.proofs.listening.Listening.take.Goals as goal
 
 pub taking-init : goal.taking-init
-taking-init g c = (
-  none_added g.A.Acceptor.tells g.R.Timer.shows c.args.most (intake c.args.self.now.acceptor c.args.self.now.places),
-  refl,
-)
+taking-init g c = (none_added _ _ _ _, refl)
 
 pub returns-in-Failed-clause-failed : goal.returns-in-Failed-clause-failed
 returns-in-Failed-clause-failed g c = λ is.
-    let old = intake c.args.self.now.acceptor c.args.self.now.places in
-    let mid = intake c.taking.self.acceptor c.taking.self.places in
-    fails_refused g.A.Acceptor.tells g.R.Timer.shows g.A.Stream.Read.remaining g.A.Stream.Connection.fails c.args.most
-    old mid (intake c.take_one.new.self.acceptor c.take_one.new.self.places)
-    (waits_added g.A.Acceptor.tells g.R.Timer.shows g.A.Stream.Read.remaining g.A.Stream.Connection.fails c.args.most
-    old mid c.taking.invariant.0) c.in-Failed.ensures.taken c.take_one.ensures.places
+    fails_refused _ _ _ _ _ _ _ (intake c.take_one.new.self.acceptor c.take_one.new.self.places)
+    (waits_added _ _ _ _ _ _ _ c.taking.invariant.0)
+    c.in-Failed.ensures.taken c.take_one.ensures.places
 
 pub returns-in-Nothing-clause-added : goal.returns-in-Nothing-clause-added
 returns-in-Nothing-clause-added g c = λ is.
-    let old = intake c.args.self.now.acceptor c.args.self.now.places in
     let mid = intake c.taking.self.acceptor c.taking.self.places in
     let new = intake c.take_one.new.self.acceptor c.take_one.new.self.places in (
-      added_then g.A.Acceptor.tells g.R.Timer.shows c.args.most old mid new c.taking.invariant.0
-          (none_came g.A.Acceptor.tells g.R.Timer.shows c.args.most mid new c.in-Nothing.ensures.taken
-          c.take_one.ensures.places),
+      added_then _ _ _ _ _ _ c.taking.invariant.0
+          (none_came _ _ _ mid new c.in-Nothing.ensures.taken c.take_one.ensures.places),
       λ short. absurd (false≢true (sym (c.take_one.ensures.short ∙ c.taking.invariant.1) ∙ short)),
     )
 
 pub returns-in-Short-clause-added : goal.returns-in-Short-clause-added
 returns-in-Short-clause-added g c = λ is.
-    let behind = short_behind g.A.Acceptor.tells g.R.Timer.shows c.args.most
-    (intake c.args.self.now.acceptor c.args.self.now.places) (intake c.taking.self.acceptor c.taking.self.places)
-    (intake c.take_one.new.self.acceptor c.take_one.new.self.places) c.taking.invariant.0 c.in-Short.ensures.taken
-    c.take_one.ensures.places in (behind.0, λ short. behind.1)
+    let behind = short_behind _ _ _ _ _ (intake c.take_one.new.self.acceptor c.take_one.new.self.places)
+    c.taking.invariant.0 c.in-Short.ensures.taken c.take_one.ensures.places in (behind.0, λ short. behind.1)
 
 pub returns-else-self-clause-added : goal.returns-else-self-clause-added
 returns-else-self-clause-added g c = λ is.
@@ -49,7 +39,6 @@ returns-after-taking-clause-added g c = λ is.
 
 pub taking-preserved : goal.taking-preserved
 taking-preserved g c =
-    let old = intake c.args.self.now.acceptor c.args.self.now.places in
     let mid = intake c.taking.self.acceptor c.taking.self.places in
     let new = intake c.take_one.new.self.acceptor c.push.new.self in
     let one = place_of c.in-One.one in
@@ -59,8 +48,7 @@ taking-preserved g c =
     let bound : c.min-room.result ≤ 256 = search rules in
     let fewer : length mid.places < c.args.most = omega (arith, c.taking-test.true, c.len.ensures, room) in
     let few : length mid.places < most_places = omega (arith, c.taking-test.true, c.len.ensures, bound) in (
-      added_then g.A.Acceptor.tells g.R.Timer.shows c.args.most old mid new c.taking.invariant.0
-          (one_came g.A.Acceptor.tells g.R.Timer.shows c.args.most mid new one c.in-One.ensures.taken.0
-          c.in-One.ensures.taken.1 behind fewer few),
+      added_then _ _ _ _ _ _ c.taking.invariant.0
+          (one_came _ _ _ mid new one c.in-One.ensures.taken.0 c.in-One.ensures.taken.1 behind fewer few),
       c.take_one.ensures.short ∙ c.taking.invariant.1,
     )

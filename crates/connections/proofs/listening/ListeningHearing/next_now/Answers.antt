@@ -8,8 +8,7 @@ returns-in-Some g c =
     let old = intake c.args.self.now.acceptor c.args.self.now.places in
     record {
       last = old;
-      heard = waits_none g.A.Acceptor.tells g.R.Timer.shows g.A.Stream.Read.remaining g.A.Stream.Connection.fails 0
-          old;
+      heard = waits_none _ _ _ _ _ _;
       one = place_of c.in-Some.field-0;
       given = c.in-Some.ensures.given;
       same = c.in-Some.ensures.same;

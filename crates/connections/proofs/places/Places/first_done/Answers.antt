@@ -1,28 +1,22 @@
-use Rattle.std.proofs.Common.{◌<◌, length, rules}
+use Rattle.std.proofs.Common.{rules}
 use Rattle.connections.specs.Waiting.{places_of}
 use Rattle.connections.proofs.PlacesLemmas.{all_still, read_once_more}
 use Rattle.connections.proofs.places.Places.first_done.Goals as goal
 
 pub loop-place-init : goal.loop-place-init
-loop-place-init g c = all_still g.S.Read.remaining g.S.Connection.fails (places_of c.args.self.now)
+loop-place-init g c = all_still _ _ (places_of c.args.self.now)
 
 pub returns-in-Whole-clause-read : goal.returns-in-Whole-clause-read
 returns-in-Whole-clause-read g c =
-    let items = c.loop-place.self.waiting.items in
-    let within : c.loop-place.place < length items = search rules in
-    read_once_more g.S.Read.remaining g.S.Connection.fails (places_of c.args.self.now) items c.loop-place.place
-    c.index_mut.result.now c.read.new.self within c.index_mut.ensures.value c.loop-place.invariant c.read.ensures
+    read_once_more _ _ _ c.loop-place.self.waiting.items _ c.index_mut.result.now c.read.new.self (search rules)
+    c.index_mut.ensures.value c.loop-place.invariant c.read.ensures
 
 pub returns-in-Failed-clause-read : goal.returns-in-Failed-clause-read
 returns-in-Failed-clause-read g c =
-    let items = c.loop-place.self.waiting.items in
-    let within : c.loop-place.place < length items = search rules in
-    read_once_more g.S.Read.remaining g.S.Connection.fails (places_of c.args.self.now) items c.loop-place.place
-    c.index_mut.result.now c.read.new.self within c.index_mut.ensures.value c.loop-place.invariant c.read.ensures
+    read_once_more _ _ _ c.loop-place.self.waiting.items _ c.index_mut.result.now c.read.new.self (search rules)
+    c.index_mut.ensures.value c.loop-place.invariant c.read.ensures
 
 pub loop-place-preserved : goal.loop-place-preserved
 loop-place-preserved g c =
-    let items = c.loop-place.self.waiting.items in
-    let within : c.loop-place.place < length items = search rules in
-    read_once_more g.S.Read.remaining g.S.Connection.fails (places_of c.args.self.now) items c.loop-place.place
-    c.index_mut.result.now c.read.new.self within c.index_mut.ensures.value c.loop-place.invariant c.read.ensures
+    read_once_more _ _ _ c.loop-place.self.waiting.items _ c.index_mut.result.now c.read.new.self (search rules)
+    c.index_mut.ensures.value c.loop-place.invariant c.read.ensures

@@ -6,14 +6,12 @@ use Rattle.connections.proofs.PlacesLemmas.{all_still, none_before, one_more_bef
 use Rattle.connections.proofs.places.Places.first_whole.Goals as goal
 
 pub loop-place-init : goal.loop-place-init
-loop-place-init g c = (all_still g.S.Read.remaining g.S.Connection.fails (places_of c.args.self.now), tt)
+loop-place-init g c = (all_still _ _ (places_of c.args.self.now), tt)
 
 pub returns-then-is_whole-clause-read : goal.returns-then-is_whole-clause-read
 returns-then-is_whole-clause-read g c =
-    let items = c.loop-place.self.waiting.items in
-    let within : c.loop-place.place < length items = search rules in
-    read_once_more g.S.Read.remaining g.S.Connection.fails (places_of c.args.self.now) items c.loop-place.place
-    c.index_mut.result.now c.read.new.self within c.index_mut.ensures.value c.loop-place.invariant.0 c.read.ensures
+    read_once_more _ _ _ c.loop-place.self.waiting.items _ c.index_mut.result.now c.read.new.self (search rules)
+    c.index_mut.ensures.value c.loop-place.invariant.0 c.read.ensures
 
 pub loop-place-preserved : goal.loop-place-preserved
 loop-place-preserved g c =
@@ -23,8 +21,8 @@ loop-place-preserved g c =
     subst (λ w. IsUnfinished w.request)
     (c.index.ensures ∙ get_or-set_same items c.loop-place.place c.read.new.self _ within)
     (c.is_whole.ensures.unfinished c.if-is_whole.false) in (
-      read_once_more g.S.Read.remaining g.S.Connection.fails (places_of c.args.self.now) items c.loop-place.place
-          c.index_mut.result.now c.read.new.self within c.index_mut.ensures.value c.loop-place.invariant.0 c.read.ensures,
+      read_once_more _ _ _ items _ c.index_mut.result.now c.read.new.self within c.index_mut.ensures.value
+          c.loop-place.invariant.0 c.read.ensures,
       one_more_before items c.loop-place.place c.read.new.self within unfinished c.loop-place.invariant.1,
     )
 

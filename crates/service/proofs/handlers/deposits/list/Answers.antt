@@ -11,31 +11,29 @@ use Rattle.service.proofs.handlers.deposits.list.Goals as goal
 
 pub returns-in-Err-clause-served : goal.returns-in-Err-clause-served
 returns-in-Err-clause-served g c =
-    told g.B.Standing g.G.Signer.signs g.G.Signer.fault_count g.W.Write.contents c.args.context.now.at.reading
-    c.args.writer.now c.refuse.new.writer c.args.desk.now c.list_within.new.self c.args._signer.now c.args._signer.now
-    c.refuse.result (ListAll (account_view c.args.account.now)) (Refused c.in-Err.fault) (refusal_answer c.from.result)
+    told _ _ _ _ _ _ _ _ _ _ _ _ (ListAll (account_view c.args.account.now)) (Refused c.in-Err.fault) (refusal_answer
+    c.from.result)
     (c.in-Err.ensures.step, refl) (plainly (ap refusal_answer c.from.ensures))
-    (sent_behind g.W.Write.contents _ c.args.writer.now c.list_within.new.output c.refuse.new.writer
-    c.list_within.ensures.unwritten (refusal_answer c.from.result) _ c.refuse.ensures.sent)
+    (sent_behind g.W.Write.contents _ _ c.list_within.new.output _ c.list_within.ensures.unwritten (refusal_answer
+    c.from.result) _ c.refuse.ensures.sent)
 
 pub returns-in-Some-clause-served : goal.returns-in-Some-clause-served
 returns-in-Some-clause-served g c =
-    told g.B.Standing g.G.Signer.signs g.G.Signer.fault_count g.W.Write.contents c.args.context.now.at.reading
-    c.args.writer.now c.succeed.new.writer c.args.desk.now c.list_within.new.self c.args._signer.now c.args._signer.now
-    c.succeed.result (ListAll (account_view c.args.account.now)) (Listed (map listed_view c.in-Ok.rows.items))
+    told _ _ _ _ _ _ _ _ _ _ _ _ (ListAll (account_view c.args.account.now)) (Listed (map listed_view
+    c.in-Ok.rows.items))
     (success 200 media.Text c.deref-in-Some.result.now) (c.in-Ok.ensures.step, refl)
     (plainly (ap (success 200 media.Text)
     (c.deref-in-Some.ensures.value ∙ rw c.deref.ensures.value at c.in-Some.ensures)))
-    (sent_behind g.W.Write.contents _ c.args.writer.now c.list_within.new.output c.succeed.new.writer
-    c.list_within.ensures.unwritten (success 200 media.Text c.deref-in-Some.result.now) _ c.succeed.ensures.sent)
+    (sent_behind g.W.Write.contents _ _ c.list_within.new.output _ c.list_within.ensures.unwritten (success 200
+    media.Text c.deref-in-Some.result.now) _
+    c.succeed.ensures.sent)
 
 pub returns-clause-served : goal.returns-clause-served
 returns-clause-served g c =
-    told g.B.Standing g.G.Signer.signs g.G.Signer.fault_count g.W.Write.contents c.args.context.now.at.reading
-    c.args.writer.now c.out_of_memory.new.writer c.args.desk.now c.list_within.new.self c.args._signer.now
-    c.args._signer.now c.out_of_memory.result (ListAll (account_view c.args.account.now))
-    (Listed (map listed_view c.in-Ok.rows.items)) unavailable (c.in-Ok.ensures.step, refl)
+    told _ _ _ _ _ _ _ _ _ _ _ _ (ListAll (account_view c.args.account.now)) (Listed (map listed_view
+    c.in-Ok.rows.items)) unavailable
+    (c.in-Ok.ensures.step, refl)
     (wants_lines (account_view c.args.account.now) refl (map listed_view c.in-Ok.rows.items) refl
     (rw c.deref.ensures.value at c.in-None.ensures) refl)
-    (sent_behind g.W.Write.contents _ c.args.writer.now c.list_within.new.output c.out_of_memory.new.writer
-    c.list_within.ensures.unwritten unavailable _ c.out_of_memory.ensures.sent)
+    (sent_behind g.W.Write.contents _ _ c.list_within.new.output _ c.list_within.ensures.unwritten unavailable _
+    c.out_of_memory.ensures.sent)

@@ -1,4 +1,4 @@
-use Rattle.std.proofs.Common.{◌≡◌, ℕ, ◌<◌, Some, refl, sym, ap, ◌∙◌, subst, arith}
+use Rattle.std.proofs.Common.{◌≡◌, ℕ, ◌<◌, refl, sym, ap, ◌∙◌, subst, arith}
 use Rattle.cms.specs.Signer.{signed_by}
 use Rattle.sessions.specs.ReconnectingSigner.{ReconnectingState}
 use Rattle.sessions.proofs.Chains.{lost_next, asked_next, answered_next, failed_next}
@@ -34,36 +34,24 @@ returns-in_default-clause-awaits g c =
 
 pub returns-in-Ok-clause-awaits : goal.returns-in-Ok-clause-awaits
 returns-in-Ok-clause-awaits g c =
-    let z : ReconnectingState g.row.S.Denot g.row.O.Denot = record {
-      sessions = c.signed.new.self;
-      session = Some c.receive_ahead.new.self;
-      algorithm = c.self.inside.algorithm;
-      faults = c.self.inside.faults;
-      ahead = c.pop.new.self.len;
-      is_lost = c.self.inside.is_lost;
-    } in
-    answered_next g.S.Signer.sent g.O.Sessions.fresh g.O.Sessions.opens g.O.Sessions.signed g.O.Sessions.loses
-    g.S.Signer.signs g.S.Pipeline.ahead c.args.self.now z
+    answered_next _ _ _ _ _ g.S.Signer.signs g.S.Pipeline.ahead c.args.self.now _
     c.in-Some-take.session c.receive_ahead.new.self c.args.text.now c.in-Ok.answer.items g.met.S.Pipeline.all_received
     (subst (λ n. 0 < n) (ap (λ s. s.ahead) c.self.view_is) (omega (arith, c.in-Some.ensures.cases)))
     (ap (λ s. s.session) (sym c.self.view_is) ∙ sym c.take.ensures.value ∙ c.in-Some-take.is)
     c.in-Ok.ensures.receives c.receive_ahead.ensures.sent refl
-    (subst (λ o. g.O.Sessions.signed o c.signed.new.self) (ap (λ s. s.sessions) c.self.view_is) c.signed.ensures)
+    (rw (ap (λ s. s.sessions) c.self.view_is) at c.signed.ensures)
     (c.in-Some.ensures.cases ∙ ap (λ s. s.ahead) c.self.view_is) c.if-self.false
 
 pub returns-in-Err-clause-awaits : goal.returns-in-Err-clause-awaits
 returns-in-Err-clause-awaits g c =
-    let z = c.fail-in-Err.new.self in
-    failed_next g.S.Signer.sent g.O.Sessions.fresh g.O.Sessions.opens g.O.Sessions.signed g.O.Sessions.loses
-    g.S.Signer.signs g.S.Pipeline.ahead c.args.self.now z
+    failed_next _ _ _ _ _ g.S.Signer.signs g.S.Pipeline.ahead c.args.self.now _
     c.in-Some-take.session c.receive_ahead.new.self c.args.text.now c.fail-in-Err.result c.fail-in-Err.ensures.failed
     (subst (λ n. 0 < n) (ap (λ s. s.ahead) c.self.view_is) (omega (arith, c.in-Some.ensures.cases)))
     (ap (λ s. s.session) (sym c.self.view_is) ∙ sym c.take.ensures.value ∙ c.in-Some-take.is)
     c.in-Err.ensures.receives c.receive_ahead.ensures.sent
     (ap (λ s. s.session) c.fail-in-Err.ensures.counted ∙ ap (λ s. s.session) c.lose.ensures.lost
     ∙ c.take.ensures.after)
-    (subst (λ o. g.O.Sessions.loses o c.receive_ahead.new.self z.sessions) (ap (λ s. s.sessions) c.self.view_is)
-    (subst (λ o. g.O.Sessions.loses c.self.inside.sessions c.receive_ahead.new.self o)
-    (sym (ap (λ s. s.sessions) c.fail-in-Err.ensures.counted)) c.lose.ensures.told))
+    (rw (ap (λ s. s.sessions) c.self.view_is, sym (ap (λ s. s.sessions) c.fail-in-Err.ensures.counted)) at
+    c.lose.ensures.told)
     (ap (λ s. s.ahead) c.fail-in-Err.ensures.counted ∙ ap (λ s. s.ahead) c.lose.ensures.lost)
     (ap (λ s. s.is_lost) c.fail-in-Err.ensures.counted)

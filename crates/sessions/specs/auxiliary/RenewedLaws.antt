@@ -25,7 +25,8 @@ pub all_signed : {S O : Type 0} (signs : S → List ℕ → Result (List ℕ) Si
     (is_ahead : S → List (List ℕ) → S → Type 0) (fresh : S → Type 0)
     (goes : ReconnectingState S O → List (List ℕ) → ReconnectingState S O → Type 0) (x y : ReconnectingState S O)
     (texts : List (List ℕ)) (answers : List (Result (List ℕ) SignerFault))
-    → AwaitsRenewed signs is_ahead fresh goes x texts answers [] y → SignsEach (SignsRenewed signs fresh) x texts answers y
+    → AwaitsRenewed signs is_ahead fresh goes x texts answers [] y
+    → SignsEach (SignsRenewed signs fresh) x texts answers y
 all_signed signs is_ahead fresh goes x y texts answers awaits =
     subst (λ z. SignsEach (SignsRenewed signs fresh) x texts answers z)
     (sym (as_it_is signs is_ahead fresh awaits.as_if y awaits.stands)) awaits.signed
