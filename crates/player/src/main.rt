@@ -2,41 +2,37 @@
 #![tactic(auto)]
 
 mod loopback;
+mod scenarios;
+mod transcript;
 mod vectors;
 
-use std::{env, fs, io};
+use std::{env, fs};
+use transcript::names_of;
 
 /// The word between two parts.
 const THEN: &str = "then";
 
-/// The texts of files, one behind the other, with an end behind each.
-fn texts(rt: &HostRuntime, paths: &[String], end: &str) -> io::Result<String> {
-    let mut whole = String::new(rt.alloc());
+/// Plays the rows of files, one behind the other, with an empty line between them.
+fn play(rt: &HostRuntime, word: &str, paths: &[String]) -> anyhow::Result<()> {
+    let mut text = String::new(rt.alloc());
     for path in paths {
-        let text = fs::read_to_string(rt, path.as_str())?;
-        whole.push_str(&text)?;
-        whole.push_str(end)?;
+        text.push_str(&fs::read_to_string(rt, path.as_str())?)?;
+        text.push('\n')?;
     }
-    Ok(whole)
-}
-
-/// Plays the rows of files.
-fn play_vectors(rt: &HostRuntime, paths: &[String]) -> anyhow::Result<()> {
-    vectors::play(rt, &texts(rt, paths, "\n")?)?;
-    Ok(())
-}
-
-/// Plays the scenarios of files.
-fn play_scenarios(rt: &HostRuntime, paths: &[String]) -> anyhow::Result<()> {
-    scenarios::play(rt, &texts(rt, paths, "")?)?;
+    let names = names_of(rt.alloc(), &text)?;
+    match word {
+        "vectors" => vectors::play(rt, &names, &text),
+        _ => scenarios::play(rt, &names, &text),
+    }
     Ok(())
 }
 
 /// Does what the words of a part ask for.
 fn perform(rt: &HostRuntime, words: &[String]) -> anyhow::Result<()> {
     match words {
-        [word, paths @ ..] if word.as_str() == "vectors" => play_vectors(rt, paths),
-        [word, paths @ ..] if word.as_str() == "scenarios" => play_scenarios(rt, paths),
+        [word, paths @ ..] if matches!(word.as_str(), "vectors" | "scenarios") => {
+            play(rt, word.as_str(), paths)
+        }
         [work, what, count] if work.as_str() == "work" && what.as_str() == "serve" => {
             loopback::serve(rt, count.parse()?)
         }

@@ -19,20 +19,16 @@ pub trait OverConnection {
 /// What became of an opening: a store, or why there is none, and the connection.
 pub type Opened<S> = Result<Store<S>, (StoreFault, Connection<S>)>;
 
-/// A store that is made over a database.
-pub fn create<S: Alter + Drop>(alloc: Global, conn: Connection<S>) -> Opened<S> {
+/// A store that is made over a database, or the one that this has.
+pub fn opened<S: Alter + Drop>(alloc: Global, conn: Connection<S>, is_new: bool) -> Opened<S> {
     if !conn.is_autocommit() {
         return Err((StoreFault::Database, conn));
     }
-    Store::create(alloc, conn)
-}
-
-/// The store that a database has.
-pub fn adopt<S: Alter + Drop>(alloc: Global, conn: Connection<S>) -> Opened<S> {
-    if !conn.is_autocommit() {
-        return Err((StoreFault::Database, conn));
+    if is_new {
+        Store::create(alloc, conn)
+    } else {
+        Store::adopt(alloc, conn)
     }
-    Store::adopt(alloc, conn)
 }
 
 /// Does work over a store, and gives it back. No other function takes a store for a book, so that the types of one are
@@ -58,7 +54,7 @@ pub fn over_opened<S: Alter + Drop, W: OverBook>(
 /// Does work over the store that is made over an empty database in memory.
 pub fn over_memory<W: OverBook>(alloc: Global, work: &mut W) -> anyhow::Result<()> {
     let conn = Connection::open_in_memory(alloc)?;
-    let _conn = over_opened(create(alloc, conn), work)?;
+    let _conn = over_opened(opened(alloc, conn, true), work)?;
     Ok(())
 }
 

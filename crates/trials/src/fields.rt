@@ -1,6 +1,6 @@
 //! The parts of a line, and of octets.
 use hex::FromHexError;
-use std::alloc::{AllocError, Global};
+use std::alloc::Global;
 
 /// The first word of a text, and what stands behind the space after it.
 pub fn word(text: &str) -> (&str, &str) {
@@ -10,11 +10,6 @@ pub fn word(text: &str) -> (&str, &str) {
 /// The octets of hexadecimal digits.
 pub fn octets(alloc: Global, digits: &str) -> Result<Vec<u8>, FromHexError> {
     hex::decode(alloc, digits)
-}
-
-/// The text in which `\r` and `\n` stood for these controls.
-pub fn controlled(alloc: Global, text: &str) -> Result<String, AllocError> {
-    text.replace(alloc, "\\r\\n", "\r\n")
 }
 
 /// Whether octets, of which there are some, stand in others.

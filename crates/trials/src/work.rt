@@ -12,42 +12,21 @@ use crate::setting::CERTIFICATE;
 use crate::work::setting::setting_of;
 use service::MOST_OCTETS;
 use std::alloc::Global;
-use std::fs::File;
-use std::io::{self, Read};
+use std::fs;
 
-/// What a file holds.
-fn octets_of(rt: &HostRuntime, path: &str) -> io::Result<Vec<u8>> {
-    let mut octets = Vec::new(rt.alloc());
-    File::open(rt, path)?.read_to_end(&mut octets)?;
-    Ok(octets)
-}
-
-/// Writes as many replies, by a certificate in a file.
-fn reply_by(rt: &HostRuntime, path: &str, count: u64) -> anyhow::Result<u64> {
-    let certificate = octets_of(rt, path)?;
-    replies::replies(rt.alloc(), &certificate, count)
-}
-
-/// Does the work as many times as the words say, and tells how many times it was done.
-fn times_done(rt: &HostRuntime, words: &[String]) -> anyhow::Result<u64> {
-    match words {
-        [what, count] if what.as_str() == "read" => Ok(requests::readings(number_of(count))),
-        [what, count] if what.as_str() == "reply" => {
-            replies::replies(rt.alloc(), CERTIFICATE, number_of(count))
+/// Does work so many times, as the words say, and tells how many times it was done.
+fn times_done(rt: &HostRuntime, what: &str, count: u64, words: &[String]) -> anyhow::Result<u64> {
+    let alloc = rt.alloc();
+    match (what, words) {
+        ("read", []) => Ok(requests::readings(count)),
+        ("reply", []) => replies::replies(alloc, CERTIFICATE, count),
+        ("reply", [path]) => replies::replies(alloc, &fs::read(rt, path.as_str())?, count),
+        ("grant", [path]) => grants::grants(rt, path.as_str(), count),
+        ("head", [fields]) => heads::heads(alloc, count, number_of(fields) as usize, MOST_OCTETS),
+        ("head", [fields, octets]) => {
+            let (fields, octets) = (number_of(fields) as usize, number_of(octets) as usize);
+            heads::heads(alloc, count, fields, octets)
         }
-        [what, count, path] if what.as_str() == "reply" => reply_by(rt, path, number_of(count)),
-        [what, count, path] if what.as_str() == "grant" => {
-            grants::grants(rt, path.as_str(), number_of(count))
-        }
-        [what, count, fields] if what.as_str() == "head" => {
-            heads::heads(rt.alloc(), number_of(count), size_of(fields), MOST_OCTETS)
-        }
-        [what, count, fields, octets] if what.as_str() == "head" => heads::heads(
-            rt.alloc(),
-            number_of(count),
-            size_of(fields),
-            size_of(octets),
-        ),
         _ => Ok(0),
     }
 }
@@ -57,13 +36,8 @@ fn number_of(word: &String) -> u64 {
     word.parse().unwrap_or(0)
 }
 
-/// The same, of octets or fields.
-fn size_of(word: &String) -> usize {
-    word.parse().unwrap_or(0)
-}
-
-/// Does work at a desk over an empty database in memory, whose account's quota isn't used up. Its clock is calibrated at
-/// a reading, in microseconds since 1970.
+/// Does work at a desk over an empty database in memory, whose account's quota isn't used up. Its clock is calibrated
+/// at a reading, in microseconds since 1970.
 pub fn at_desk_of_work<W: AtDesk>(alloc: Global, reading: i64, work: &mut W) -> anyhow::Result<()> {
     let setting = setting_of(alloc, CERTIFICATE)?;
     at_desk(alloc, &setting, reading, work)
@@ -77,7 +51,13 @@ pub fn at_desk_of_work<W: AtDesk>(alloc: Global, reading: i64, work: &mut W) -> 
 pub fn perform(rt: &HostRuntime, words: &[String]) -> anyhow::Result<()> {
     match words {
         [what, path] if what.as_str() == "sample" => sample::write(rt, path.as_str())?,
-        words => println!(rt; "{}", times_done(rt, words)?)?,
+        [what, count, words @ ..] => {
+            println!(rt;
+                "{}",
+                times_done(rt, what.as_str(), number_of(count), words)?
+            )?;
+        }
+        _ => println!(rt; "0")?,
     }
     Ok(())
 }

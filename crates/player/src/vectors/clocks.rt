@@ -1,8 +1,8 @@
 //! The clock's state, and holds.
+use crate::transcript::{Printer, Words};
 use crate::vectors::files::Files;
 use decide::{Calibration, ClockFacts, ClockState, Hold, clock_state, now_of};
 use gentime::GenTime;
-use transcript::{Printer, Words};
 
 /// The calibration of the next three words: reading, offset and uncertainty; none without them.
 fn calibration_of(words: &mut Words<'_>) -> Option<Calibration> {
@@ -29,10 +29,6 @@ pub fn facts_of(words: &mut Words<'_>) -> ClockFacts {
     }
 }
 
-fn is_held(hold: &Hold, reading: i64, calibration: &Calibration) -> bool {
-    hold.contains(now_of(reading, calibration))
-}
-
 /// Tells the clock's state by the policy file that was read last; or behind `holds` whether a hold, by its ends, holds
 /// the moment of a reading after a calibration.
 pub fn call(printer: Printer<'_>, files: &Files, words: Words<'_>) {
@@ -44,7 +40,7 @@ pub fn call(printer: Printer<'_>, files: &Files, words: Words<'_>) {
         };
         let reading = words.signed();
         if let Some(calibration) = calibration_of(&mut words) {
-            printer.tell(&is_held(&hold, reading, &calibration));
+            printer.tell(&hold.contains(now_of(reading, &calibration)));
         }
     } else if let Some(policy) = &files.policy {
         match clock_state(&policy.counter, &facts_of(&mut words)) {

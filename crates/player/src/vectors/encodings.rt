@@ -1,7 +1,6 @@
 //! Values that are written.
+use crate::transcript::{Names, Printer, Words};
 use der::{DerFault, Tag, Writer};
-use std::alloc::{AllocError, Global};
-use transcript::{Names, Printer, Words};
 
 /// The tag of two hexadecimal digits; NULL's where they are no tag's.
 pub fn tag_of(digits: &str) -> Tag {
@@ -13,23 +12,6 @@ pub fn tag_of(digits: &str) -> Tag {
     Tag::new(octet).unwrap_or(Tag::NULL)
 }
 
-fn append(names: &Names, writer: &mut Writer, word: &str) -> Result<(), DerFault> {
-    writer.append(&names.octets_of(word)?)
-}
-
-fn append_element(
-    names: &Names,
-    writer: &mut Writer,
-    tag: &str,
-    word: &str,
-) -> Result<(), DerFault> {
-    writer.append_element(tag_of(tag), &names.octets_of(word)?)
-}
-
-fn wrap(writer: &mut Writer, tag: &str) -> Result<(), DerFault> {
-    writer.wrap(tag_of(tag))
-}
-
 /// Writes what a word says.
 fn write(
     names: &Names,
@@ -38,19 +20,19 @@ fn write(
     words: &mut Words<'_>,
 ) -> Result<(), DerFault> {
     match word {
-        "append" => append(names, writer, words.next()),
+        "append" => writer.append(&names.octets_of(words.next())?),
         "element" => {
-            let tag = words.next();
-            append_element(names, writer, tag, words.next())
+            let tag = tag_of(words.next());
+            writer.append_element(tag, &names.octets_of(words.next())?)
         }
-        _ => wrap(writer, words.next()),
+        _ => writer.wrap(tag_of(words.next())),
     }
 }
 
 /// Writes what the words say, and tells what is written.
-pub fn call(alloc: Global, printer: Printer<'_>, words: Words<'_>) -> Result<(), AllocError> {
+pub fn call(printer: Printer<'_>, words: Words<'_>) {
     let mut words = words;
-    let mut writer = Writer::new(alloc);
+    let mut writer = Writer::new(printer.alloc());
     for _ in 0..words.rest.len() {
         let word = words.next();
         if word.is_empty() {
@@ -63,5 +45,4 @@ pub fn call(alloc: Global, printer: Printer<'_>, words: Words<'_>) -> Result<(),
     printer.number("length", writer.len() as u64);
     printer.tell(&writer.is_empty());
     printer.digits("written", &writer.into_octets());
-    Ok(())
 }

@@ -1,9 +1,8 @@
 //! Ends that fail when they are told to, and give and take so many octets at a time.
-use crate::vectors::signers::chosen_of;
+use crate::transcript::{Gathered, Pieces, Printer, Words, chosen_of};
 use counter_fakes::{FailingReader, FailingWriter};
 use std::alloc::{AllocError, Global};
 use std::io::{Read, Write};
-use transcript::{Gathered, Pieces, Printer, Words};
 
 /// A reader of octets that fails.
 pub type Reader<'r, 'i> = FailingReader<&'r mut Pieces<'i>>;
@@ -18,15 +17,14 @@ pub fn reader_of<'r, 'i>(
     words: &mut Words<'_>,
 ) -> Result<Reader<'r, 'i>, AllocError> {
     let octets = words.number();
-    let chosen = chosen_of(alloc, words.next())?;
-    Ok(FailingReader::new(input, chosen, octets))
+    Ok(FailingReader::new(input, chosen_of(alloc, words.next(), ',')?, octets))
 }
 
 /// A writer that takes as many octets as the next word says, so many at a time, for which it has the room from the
 /// beginning, and fails at the calls that the word behind it chooses.
 pub fn writer_of(alloc: Global, size: usize, words: &mut Words<'_>) -> Result<Writer, AllocError> {
     let most = words.number() as usize;
-    let chosen = chosen_of(alloc, words.next())?;
+    let chosen = chosen_of(alloc, words.next(), ',')?;
     let octets = Vec::with_capacity(alloc, most)?;
     Ok(FailingWriter::new(Gathered { octets, size }, chosen, most))
 }
@@ -37,13 +35,12 @@ fn given<R: Read>(reader: &mut R) -> Option<usize> {
     reader.read(&mut octets).ok()
 }
 
-fn read(alloc: Global, printer: Printer<'_>, words: Words<'_>) -> Result<(), AllocError> {
-    let mut words = words;
+fn read(printer: Printer<'_>, words: &mut Words<'_>) -> Result<(), AllocError> {
     let mut input = Pieces {
         octets: printer.names.octets(words.next()),
         size: usize::MAX,
     };
-    let mut reader = reader_of(alloc, &mut input, &mut words)?;
+    let mut reader = reader_of(printer.alloc(), &mut input, words)?;
     for _ in 0..words.number() {
         printer.tell(&given(&mut reader));
     }
@@ -51,20 +48,10 @@ fn read(alloc: Global, printer: Printer<'_>, words: Words<'_>) -> Result<(), All
     Ok(())
 }
 
-/// How many octets a write takes; none where it fails.
-fn taken<W: Write>(writer: &mut W, octets: &[u8]) -> Option<usize> {
-    writer.write(octets).ok()
-}
-
-fn write(alloc: Global, printer: Printer<'_>, words: Words<'_>) -> Result<(), AllocError> {
-    let mut words = words;
-    let mut writer = writer_of(alloc, usize::MAX, &mut words)?;
-    for _ in 0..words.rest.len() {
-        let name = words.next();
-        if name.is_empty() {
-            break;
-        }
-        printer.tell(&taken(&mut writer, printer.names.octets(name)));
+fn write(printer: Printer<'_>, words: &mut Words<'_>) -> Result<(), AllocError> {
+    let mut writer = writer_of(printer.alloc(), usize::MAX, words)?;
+    for name in words.rest.split_terminator(' ') {
+        printer.tell(&writer.write(printer.names.octets(name)).ok());
     }
     printer.tell(&writer.flush().is_ok());
     printer.number("calls", writer.calls);
@@ -73,10 +60,10 @@ fn write(alloc: Global, printer: Printer<'_>, words: Words<'_>) -> Result<(), Al
 }
 
 /// Makes the calls that the words name.
-pub fn call(alloc: Global, printer: Printer<'_>, words: Words<'_>) -> Result<(), AllocError> {
+pub fn call(printer: Printer<'_>, words: Words<'_>) -> Result<(), AllocError> {
     let mut words = words;
     match words.next() {
-        "read" => read(alloc, printer, words),
-        _ => write(alloc, printer, words),
+        "read" => read(printer, &mut words),
+        _ => write(printer, &mut words),
     }
 }

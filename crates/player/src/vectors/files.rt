@@ -1,7 +1,7 @@
 //! Policy files.
-use policy::{Policy, PolicyFault};
+use crate::transcript::{Printer, Words};
+use policy::Policy;
 use std::alloc::{AllocError, Global};
-use transcript::{Printer, Words};
 
 /// The record of the policy file that was read last, and that of another.
 #[derive(Drop)]
@@ -17,21 +17,16 @@ fn changed(
     old: &[u8],
     new: &[u8],
 ) -> Result<Option<String>, AllocError> {
-    let old = str::from_utf8(old).unwrap_or("");
     let new = str::from_utf8(new).unwrap_or("");
-    match text.split_once(old) {
+    match text.split_once(str::from_utf8(old).unwrap_or("")) {
         Some((front, back)) => Ok(Some(format!(in alloc; "{front}{new}{back}")?)),
         None => Ok(None),
     }
 }
 
 /// The text of a name, in which pairs of an expression's parts say what is replaced by what; none where one can't be.
-fn text_of(
-    alloc: Global,
-    printer: Printer<'_>,
-    words: Words<'_>,
-) -> Result<Option<String>, AllocError> {
-    let mut words = words;
+fn text_of(printer: Printer<'_>, words: Words<'_>) -> Result<Option<String>, AllocError> {
+    let (alloc, mut words) = (printer.alloc(), words);
     let mut text = String::from_str(alloc, printer.names.text(words.next()))?;
     let mut rest = words.rest;
     for _ in 0..words.rest.len() {
@@ -49,10 +44,6 @@ fn text_of(
     Ok(Some(text))
 }
 
-fn from_text(alloc: Global, text: &str) -> Result<Policy, PolicyFault> {
-    Policy::from_text(alloc, text)
-}
-
 /// Tells how many entries each array has, and the numbers of the counter.
 fn tell(printer: Printer<'_>, policy: &Policy) {
     printer.number("algorithms", policy.algorithms.len() as u64);
@@ -67,16 +58,15 @@ fn tell(printer: Printer<'_>, policy: &Policy) {
 
 /// Reads a policy file, tells what it has or its first fault, and keeps its record.
 pub fn read(
-    alloc: Global,
     printer: Printer<'_>,
     kept: &mut Option<Policy>,
     words: Words<'_>,
 ) -> Result<(), AllocError> {
-    let Some(text) = text_of(alloc, printer, words)? else {
+    let Some(text) = text_of(printer, words)? else {
         printer.line("  no such text");
         return Ok(());
     };
-    match from_text(alloc, &text) {
+    match Policy::from_text(printer.alloc(), &text) {
         Ok(policy) => {
             tell(printer, &policy);
             *kept = Some(policy);

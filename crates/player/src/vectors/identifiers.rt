@@ -1,15 +1,11 @@
 //! The contents of INTEGERs and of object identifiers.
+use crate::transcript::{Printer, Words};
 use der::{DerFault, Oid, is_number_content, is_oid_content, whole_number_content};
 use std::alloc::{AllocError, Global};
-use transcript::{Printer, Words};
-
-fn number_content(alloc: Global, number: i128) -> Result<Vec<u8>, DerFault> {
-    whole_number_content(alloc, number)
-}
 
 /// Tells the contents of a number, and whether they are told to be.
-fn tell_number(alloc: Global, printer: Printer<'_>, word: &str) {
-    match number_content(alloc, word.parse().unwrap_or(0)) {
+fn tell_number(printer: Printer<'_>, word: &str) {
+    match whole_number_content(printer.alloc(), word.parse().unwrap_or(0)) {
         Ok(content) => {
             printer.digits("content", &content);
             printer.tell(&is_number_content(&content));
@@ -18,25 +14,17 @@ fn tell_number(alloc: Global, printer: Printer<'_>, word: &str) {
     }
 }
 
-fn from_content(alloc: Global, octets: &[u8]) -> Result<Oid, DerFault> {
-    Oid::from_content(alloc, octets)
-}
-
-fn parse_text(alloc: Global, text: &str) -> Result<Oid, DerFault> {
-    Oid::parse_text(alloc, text)
-}
-
 /// The text of a copy.
 fn text_of(alloc: Global, oid: &Oid) -> Result<String, DerFault> {
     oid.clone()?.text(alloc)
 }
 
 /// Tells an object identifier's contents and text.
-fn tell_oid(alloc: Global, printer: Printer<'_>, oid: Result<Oid, DerFault>) {
+fn tell_oid(printer: Printer<'_>, oid: Result<Oid, DerFault>) {
     match oid {
         Ok(oid) => {
             printer.digits("content", oid.content());
-            match text_of(alloc, &oid) {
+            match text_of(printer.alloc(), &oid) {
                 Ok(text) => printer.octets("text", text.as_bytes()),
                 Err(fault) => printer.tell(&fault),
             }
@@ -47,48 +35,36 @@ fn tell_oid(alloc: Global, printer: Printer<'_>, oid: Result<Oid, DerFault>) {
 
 /// Whether the contents of both words are one object identifier's.
 fn are_one(alloc: Global, first: &[u8], second: &[u8]) -> Result<bool, DerFault> {
-    Ok(from_content(alloc, first)? == from_content(alloc, second)?)
+    Ok(Oid::from_content(alloc, first)? == Oid::from_content(alloc, second)?)
 }
 
 /// Makes the call of an object identifier that the words name.
-fn call_oid(alloc: Global, printer: Printer<'_>, words: Words<'_>) -> Result<(), AllocError> {
-    let mut words = words;
-    let word = words.next();
-    let octets = printer.names.octets_of(words.rest)?;
+fn call_oid(printer: Printer<'_>, word: &str, octets: &[u8]) {
+    let alloc = printer.alloc();
     match word {
         "content" => {
-            printer.tell(&is_oid_content(&octets));
-            tell_oid(alloc, printer, from_content(alloc, &octets));
+            printer.tell(&is_oid_content(octets));
+            tell_oid(printer, Oid::from_content(alloc, octets));
         }
-        "text" => {
-            let text = str::from_utf8(&octets).unwrap_or("");
-            tell_oid(alloc, printer, parse_text(alloc, text));
-        }
+        "text" => tell_oid(
+            printer,
+            Oid::parse_text(alloc, str::from_utf8(octets).unwrap_or("")),
+        ),
         _ => {
             let (first, second) = octets.split_at(octets.len() / 2);
             printer.tell(&are_one(alloc, first, second));
         }
     }
-    Ok(())
 }
 
 /// Makes the call that the words name.
-pub fn call(
-    alloc: Global,
-    printer: Printer<'_>,
-    word: &str,
-    words: Words<'_>,
-) -> Result<(), AllocError> {
-    if word == "oid" {
-        return call_oid(alloc, printer, words);
-    }
+pub fn call(printer: Printer<'_>, crate_word: &str, words: Words<'_>) -> Result<(), AllocError> {
     let mut words = words;
-    match words.next() {
-        "of" => tell_number(alloc, printer, words.next()),
-        _ => {
-            let octets = printer.names.octets_of(words.rest)?;
-            printer.tell(&is_number_content(&octets));
-        }
+    let word = words.next();
+    match (crate_word, word) {
+        ("oid", _) => call_oid(printer, word, &printer.names.octets_of(words.rest)?),
+        (_, "of") => tell_number(printer, words.next()),
+        _ => printer.tell(&is_number_content(&printer.names.octets_of(words.rest)?)),
     }
     Ok(())
 }

@@ -1,13 +1,19 @@
 //! Look-ups in a policy file's record.
+use crate::transcript::{Printer, Words};
 use crate::vectors::files::Files;
-use policy::{Account, Algorithm, Extension, Group, HashAlgorithm, Policy, TsaPolicy};
-use transcript::{Printer, Words};
+use policy::{Account, Group, HashAlgorithm, Policy, TsaPolicy};
 
-fn tell_account(printer: Printer<'_>, account: Option<&Account>) {
-    match account {
-        Some(account) => printer.number(&account.name, u64::from(account.daily_quota)),
+/// Tells the name of what was found, and its number.
+fn tell_found(printer: Printer<'_>, found: Option<(&str, u64)>) {
+    match found {
+        Some((name, number)) => printer.number(name, number),
         None => printer.line("  None"),
     }
+}
+
+fn tell_account(printer: Printer<'_>, found: Option<&Account>) {
+    let found = found.map(|account| (account.name.as_str(), u64::from(account.daily_quota)));
+    tell_found(printer, found);
 }
 
 fn tell_policy(printer: Printer<'_>, policy: Option<&TsaPolicy>) {
@@ -21,25 +27,9 @@ fn tell_policy(printer: Printer<'_>, policy: Option<&TsaPolicy>) {
     }
 }
 
-fn tell_algorithm(printer: Printer<'_>, algorithm: Option<&Algorithm>) {
-    match algorithm {
-        Some(algorithm) => printer.number(&algorithm.name, u64::from(algorithm.length)),
-        None => printer.line("  None"),
-    }
-}
-
-fn tell_extension(printer: Printer<'_>, extension: Option<&Extension>) {
-    match extension {
-        Some(extension) => printer.number(&extension.name, u64::from(extension.max_length)),
-        None => printer.line("  None"),
-    }
-}
-
-fn tell_group(printer: Printer<'_>, group: Option<&Group>) {
-    match group {
-        Some(group) => printer.number(&group.name, group.members.len() as u64),
-        None => printer.line("  None"),
-    }
+fn tell_group(printer: Printer<'_>, found: Option<&Group>) {
+    let found = found.map(|group| (group.name.as_str(), group.members.len() as u64));
+    tell_found(printer, found);
 }
 
 /// Tells whether the account is a member of the group.
@@ -77,8 +67,20 @@ fn tell_hash_algorithm(printer: Printer<'_>, content: &[u8]) {
 fn look_up(printer: Printer<'_>, policy: &Policy, word: &str, octets: &[u8]) {
     match word {
         "policy-of" => tell_policy(printer, policy.policy_of_oid(octets)),
-        "algorithm-of" => tell_algorithm(printer, policy.algorithm_of_oid(octets)),
-        "extension-of" => tell_extension(printer, policy.extension_of_oid(octets)),
+        "algorithm-of" => {
+            let found = policy.algorithm_of_oid(octets);
+            tell_found(
+                printer,
+                found.map(|it| (it.name.as_str(), u64::from(it.length))),
+            );
+        }
+        "extension-of" => {
+            let found = policy.extension_of_oid(octets);
+            tell_found(
+                printer,
+                found.map(|it| (it.name.as_str(), u64::from(it.max_length))),
+            );
+        }
         "hash-algorithm" => tell_hash_algorithm(printer, octets),
         _ => tell_account(printer, policy.account_of_key(octets)),
     }

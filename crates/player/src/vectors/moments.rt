@@ -1,7 +1,7 @@
 //! Moments, and their texts.
+use crate::transcript::{Printer, Words};
 use gentime::{GenTime, GenTimeFault};
 use std::alloc::{AllocError, Global};
-use transcript::{Printer, Words};
 
 /// The text of a moment, with so many digits of its fraction at most.
 fn text_of(alloc: Global, micros: i64, digits: u64) -> Result<Vec<u8>, GenTimeFault> {
@@ -22,20 +22,14 @@ fn day_of(micros: i64) -> Result<u64, GenTimeFault> {
     Ok(GenTime::from_micros(micros)?.day())
 }
 
-fn tell_text(printer: Printer<'_>, text: Result<Vec<u8>, GenTimeFault>) {
-    match text {
-        Ok(octets) => printer.octets("text", &octets),
-        Err(fault) => printer.tell(&fault),
-    }
-}
-
 /// Makes the call that the words name.
-pub fn call(alloc: Global, printer: Printer<'_>, words: Words<'_>) -> Result<(), AllocError> {
+pub fn call(printer: Printer<'_>, words: Words<'_>) -> Result<(), AllocError> {
     let mut words = words;
     match words.next() {
         "text" => {
             let micros = words.signed();
-            tell_text(printer, text_of(alloc, micros, words.number()));
+            let text = text_of(printer.alloc(), micros, words.number());
+            printer.octets_or_fault("text", &text);
         }
         "day" => printer.tell(&day_of(words.signed())),
         _ => printer.tell(&micros_of(&printer.names.octets_of(words.rest)?)),

@@ -1,9 +1,9 @@
 //! The numbers and the texts of the refusals.
+use crate::transcript::Printer;
 use cms::{CmsFault, SignerFault};
 use der::DerFault;
 use gentime::GenTimeFault;
 use policy::{Field, PolicyFault};
-use transcript::Printer;
 use tsp::TspFault;
 
 static OF_VALUES: [DerFault; 9] = [
@@ -23,6 +23,14 @@ static OF_MOMENTS: [GenTimeFault; 4] = [
     GenTimeFault::Date,
     GenTimeFault::Range,
     GenTimeFault::Memory,
+];
+
+static OF_TOKENS: [CmsFault; 5] = [
+    CmsFault::NotCertificate,
+    CmsFault::TooLarge,
+    CmsFault::Memory,
+    CmsFault::TooMany,
+    CmsFault::Repeated,
 ];
 
 static OF_FILES: [PolicyFault; 7] = [
@@ -79,38 +87,24 @@ fn tell_of_values(printer: Printer<'_>) {
     for fault in &OF_MOMENTS {
         printer.show(u64::from(fault.number()), fault);
     }
-}
-
-fn tell_of_messages(printer: Printer<'_>) {
     for fault in &[TspFault::Form, TspFault::TooLong, TspFault::Memory] {
         printer.show(u64::from(fault.number()), fault);
-    }
-    for fault in &[
-        CmsFault::NotCertificate,
-        CmsFault::TooLarge,
-        CmsFault::Memory,
-        CmsFault::TooMany,
-        CmsFault::Repeated,
-    ] {
-        printer.show(u64::from(fault.number()), fault);
-    }
-    for fault in &[SignerFault::Failed, SignerFault::Memory] {
-        printer.show(u64::from(fault.number()), fault);
-    }
-}
-
-fn tell_of_files(printer: Printer<'_>) {
-    for fault in &OF_FILES {
-        printer.show(u64::from(fault.number()), fault);
-    }
-    for (at, field) in FIELDS.iter().enumerate() {
-        printer.show(at as u64, field);
     }
 }
 
 /// Tells all of them, and the paths of the policy file's fields.
 pub fn tell_all(printer: Printer<'_>) {
     tell_of_values(printer);
-    tell_of_messages(printer);
-    tell_of_files(printer);
+    for fault in &OF_TOKENS {
+        printer.show(u64::from(fault.number()), fault);
+    }
+    for fault in &[SignerFault::Failed, SignerFault::Memory] {
+        printer.show(u64::from(fault.number()), fault);
+    }
+    for fault in &OF_FILES {
+        printer.show(u64::from(fault.number()), fault);
+    }
+    for (at, field) in FIELDS.iter().enumerate() {
+        printer.show(at as u64, field);
+    }
 }

@@ -1,8 +1,9 @@
 //! Requests, and the replies to them.
+use crate::transcript::{Printer, Words};
 use std::alloc::{AllocError, Global};
-use transcript::{Printer, Words};
+use std::fmt::Debug;
 use tsp::{
-    Extension, Integer, ObjectIdentifier, Rejection, Request, Rule, TspFault,
+    Extension, Integer, ObjectIdentifier, Rejection, Request, Rule, TspFault, read_request,
     requests_have_one_reading, write_granted, write_request,
 };
 
@@ -25,7 +26,7 @@ static RULES: [Rule; 12] = [
 ];
 
 /// Tells what was written, or why it couldn't be.
-pub fn tell_written<F: std::fmt::Debug + Drop>(
+pub fn tell_written<F: Debug + Drop>(
     printer: Printer<'_>,
     written: Result<Vec<u8>, F>,
     octets: &[u8],
@@ -70,15 +71,15 @@ fn tell_parts(printer: Printer<'_>, request: &Request<'_>) {
 
 fn written(alloc: Global, octets: &[u8]) -> Result<Vec<u8>, TspFault> {
     requests_have_one_reading();
-    let request = tsp::read_request(octets)?;
+    let request = read_request(octets)?;
     write_request(alloc, &request)
 }
 
-fn read(alloc: Global, printer: Printer<'_>, octets: &[u8]) {
-    match tsp::read_request(octets) {
+fn read(printer: Printer<'_>, octets: &[u8]) {
+    match read_request(octets) {
         Ok(request) => {
             tell_parts(printer, &request);
-            tell_written(printer, written(alloc, octets), octets);
+            tell_written(printer, written(printer.alloc(), octets), octets);
         }
         Err(fault) => printer.tell(&fault),
     }
@@ -93,10 +94,6 @@ fn of_digest(alloc: Global, octets: &[u8], cert_req: bool) -> Result<Vec<u8>, Ts
     requests_have_one_reading();
     let request = Request::of_sha256(&digest, cert_req);
     write_request(alloc, &request)
-}
-
-fn granted(alloc: Global, token: &[u8]) -> Result<Vec<u8>, TspFault> {
-    write_granted(alloc, token)
 }
 
 /// Tells the rejection by each rule.
@@ -120,15 +117,15 @@ fn lend(printer: Printer<'_>, octets: &[u8]) {
 }
 
 /// Makes the call that the words name.
-pub fn call(alloc: Global, printer: Printer<'_>, words: Words<'_>) -> Result<(), AllocError> {
-    let mut words = words;
+pub fn call(printer: Printer<'_>, words: Words<'_>) -> Result<(), AllocError> {
+    let (alloc, mut words) = (printer.alloc(), words);
     let word = words.next();
     let cert_req = word == "digest" && words.next() == "true";
     let octets = printer.names.octets_of(words.rest)?;
     match word {
-        "read" => read(alloc, printer, &octets),
+        "read" => read(printer, &octets),
         "digest" => tell_written(printer, of_digest(alloc, &octets, cert_req), &[]),
-        "granted" => tell_written(printer, granted(alloc, &octets), &[]),
+        "granted" => tell_written(printer, write_granted(alloc, &octets), &[]),
         "lent" => lend(printer, &octets),
         _ => reject(printer),
     }

@@ -1,17 +1,12 @@
 //! Signers: the stand-in, one that fails at chosen calls, and a key holder over frames, asked in turn or ahead.
+use crate::transcript::{Pieces, Printer, Words, chosen_of};
 use crate::vectors::ends::{Reader, Writer, reader_of, writer_of};
-use crate::vectors::tokens::algorithm_of;
-use cms::{CmsFault, FramedSigner, KeyedHash, Pipeline, Signer, SignerFault};
+use cms::{Algorithm, CmsFault, FramedSigner, KeyedHash, Pipeline, Signer, SignerFault};
 use counter_fakes::FailingSigner;
 use std::alloc::{AllocError, Global};
-use transcript::{Pieces, Printer, Words};
 
 /// The algorithm 2.999.9, without parameters.
 static ALGORITHM: &[u8] = b"\x30\x05\x06\x03\x88\x37\x09";
-
-fn signature_of<S: Signer>(signer: &mut S, text: &[u8]) -> Result<Vec<u8>, SignerFault> {
-    signer.sign(text)
-}
 
 fn tell_answer(printer: Printer<'_>, answer: &Result<Vec<u8>, SignerFault>) {
     match answer {
@@ -22,90 +17,62 @@ fn tell_answer(printer: Printer<'_>, answer: &Result<Vec<u8>, SignerFault>) {
 
 /// Has each of the names' octets signed, and tells of each how many faults there were then.
 fn sign_all<S: Signer>(printer: Printer<'_>, signer: &mut S, words: Words<'_>) {
-    let mut words = words;
-    for _ in 0..words.rest.len() {
-        let name = words.next();
-        if name.is_empty() {
-            break;
-        }
-        tell_answer(printer, &signature_of(signer, printer.names.octets(name)));
+    for name in words.rest.split_terminator(' ') {
+        tell_answer(printer, &signer.sign(printer.names.octets(name)));
         printer.number("faults", signer.faults());
     }
     printer.digits("algorithm", signer.algorithm().as_slice());
 }
 
-fn stand_in(alloc: Global, key: &[u8]) -> Result<KeyedHash, CmsFault> {
-    KeyedHash::new(alloc, key)
-}
-
 /// The stand-in with the key of the first name signs the others.
-fn sign_by_key(alloc: Global, printer: Printer<'_>, words: Words<'_>) {
-    let mut words = words;
-    match stand_in(alloc, printer.names.octets(words.next())) {
-        Ok(mut signer) => sign_all(printer, &mut signer, words),
+fn sign_by_key(printer: Printer<'_>, words: &mut Words<'_>) {
+    match KeyedHash::new(printer.alloc(), printer.names.octets(words.next())) {
+        Ok(mut signer) => sign_all(printer, &mut signer, *words),
         Err(fault) => printer.tell(&fault),
     }
-}
-
-/// The numbers of a word, parted by commas.
-pub fn chosen_of(alloc: Global, word: &str) -> Result<Vec<u64>, AllocError> {
-    let mut chosen = Vec::new(alloc);
-    for number in word.split(',') {
-        if let Ok(number) = number.parse() {
-            chosen.push(number)?;
-        }
-    }
-    Ok(chosen)
-}
-
-/// A signer that fails at the calls that the first word chooses, with the key of the name behind it, signs the others.
-fn sign_failing(alloc: Global, printer: Printer<'_>, words: Words<'_>) -> Result<(), AllocError> {
-    let mut words = words;
-    let chosen = chosen_of(alloc, words.next())?;
-    match stand_in(alloc, printer.names.octets(words.next())) {
-        Ok(behind) => {
-            let mut signer = FailingSigner::new(behind, chosen);
-            sign_all(printer, &mut signer, words);
-            printer.number("calls", signer.calls);
-        }
-        Err(fault) => printer.tell(&fault),
-    }
-    Ok(())
 }
 
 /// The octets of the names.
-fn texts_of<'n>(
-    alloc: Global,
-    printer: Printer<'n>,
-    words: Words<'_>,
-) -> Result<Vec<&'n [u8]>, AllocError> {
-    let mut words = words;
-    let mut texts = Vec::new(alloc);
-    for _ in 0..words.rest.len() {
-        let name = words.next();
-        if name.is_empty() {
-            break;
-        }
+fn texts_of<'n>(printer: Printer<'n>, words: Words<'_>) -> Result<Vec<&'n [u8]>, AllocError> {
+    let mut texts = Vec::new(printer.alloc());
+    for name in words.rest.split_terminator(' ') {
         texts.push(printer.names.octets(name))?;
     }
     Ok(texts)
 }
 
-/// The same signer signs the others together, and tells at the end how many faults there were.
-fn sign_together(alloc: Global, printer: Printer<'_>, words: Words<'_>) -> Result<(), AllocError> {
-    let mut words = words;
-    let chosen = chosen_of(alloc, words.next())?;
-    let key = printer.names.octets(words.next());
-    let texts = texts_of(alloc, printer, words)?;
-    let mut answers = Vec::with_capacity(alloc, texts.len())?;
-    match stand_in(alloc, key) {
+/// A signer signs the others together, and tells at the end how many faults there were.
+fn sign_each<S: Signer>(
+    printer: Printer<'_>,
+    signer: &mut S,
+    words: Words<'_>,
+) -> Result<(), AllocError> {
+    let texts = texts_of(printer, words)?;
+    let mut answers = Vec::with_capacity(printer.alloc(), texts.len())?;
+    signer.sign_each(&texts, &mut answers);
+    for answer in &answers {
+        tell_answer(printer, answer);
+    }
+    printer.number("faults", signer.faults());
+    Ok(())
+}
+
+/// A signer that fails at the calls that the first word chooses, with the key of the name behind it, signs the others,
+/// one by one or together.
+fn sign_failing(
+    printer: Printer<'_>,
+    is_together: bool,
+    words: &mut Words<'_>,
+) -> Result<(), AllocError> {
+    let chosen = chosen_of(printer.alloc(), words.next(), ',')?;
+    match KeyedHash::new(printer.alloc(), printer.names.octets(words.next())) {
         Ok(behind) => {
             let mut signer = FailingSigner::new(behind, chosen);
-            signer.sign_each(&texts, &mut answers);
-            for answer in &answers {
-                tell_answer(printer, answer);
+            if is_together {
+                sign_each(printer, &mut signer, *words)?;
+            } else {
+                sign_all(printer, &mut signer, *words);
             }
-            printer.number("faults", signer.faults());
             printer.number("calls", signer.calls);
         }
         Err(fault) => printer.tell(&fault),
@@ -138,7 +105,7 @@ fn framed<'e, 'r, 'i>(
     reader: &'e mut Reader<'r, 'i>,
     writer: &'e mut Writer,
 ) -> Result<FramedSigner<&'e mut Reader<'r, 'i>, &'e mut Writer>, CmsFault> {
-    let algorithm = algorithm_of(alloc, ALGORITHM)?;
+    let algorithm = Algorithm::from_bytes(alloc, ALGORITHM)?;
     Ok(FramedSigner::new(alloc, reader, writer, algorithm))
 }
 
@@ -146,25 +113,23 @@ fn framed<'e, 'r, 'i>(
 /// those of both, and then names, whose octets it is asked for one by one, or sent ahead. Tells what was written, what
 /// wasn't read, and how often either end was called.
 fn sign_framed(
-    alloc: Global,
     printer: Printer<'_>,
     size: usize,
     is_ahead: bool,
-    words: Words<'_>,
+    words: &mut Words<'_>,
 ) -> Result<(), AllocError> {
-    let mut words = words;
     let mut input = Pieces {
         octets: printer.names.octets(words.next()),
         size,
     };
-    let mut reader = reader_of(alloc, &mut input, &mut words)?;
-    let mut writer = writer_of(alloc, size, &mut words)?;
-    match framed(alloc, &mut reader, &mut writer) {
+    let mut reader = reader_of(printer.alloc(), &mut input, words)?;
+    let mut writer = writer_of(printer.alloc(), size, words)?;
+    match framed(printer.alloc(), &mut reader, &mut writer) {
         Ok(mut signer) => {
             if is_ahead {
-                ask_ahead(printer, &mut signer, &texts_of(alloc, printer, words)?);
+                ask_ahead(printer, &mut signer, &texts_of(printer, *words)?);
             } else {
-                sign_all(printer, &mut signer, words);
+                sign_all(printer, &mut signer, *words);
             }
         }
         Err(fault) => printer.tell(&fault),
@@ -178,20 +143,20 @@ fn sign_framed(
 }
 
 /// Makes the call that the words name.
-pub fn call(alloc: Global, printer: Printer<'_>, words: Words<'_>) -> Result<(), AllocError> {
+pub fn call(printer: Printer<'_>, words: Words<'_>) -> Result<(), AllocError> {
     let mut words = words;
     match words.next() {
         "stand-in" => {
-            sign_by_key(alloc, printer, words);
+            sign_by_key(printer, &mut words);
             Ok(())
         }
-        "failing" => sign_failing(alloc, printer, words),
-        "together" => sign_together(alloc, printer, words),
+        "failing" => sign_failing(printer, false, &mut words),
+        "together" => sign_failing(printer, true, &mut words),
         "pieces" => {
             let size = words.number() as usize;
-            sign_framed(alloc, printer, size, false, words)
+            sign_framed(printer, size, false, &mut words)
         }
-        "ahead" => sign_framed(alloc, printer, usize::MAX, true, words),
-        _ => sign_framed(alloc, printer, usize::MAX, false, words),
+        "ahead" => sign_framed(printer, usize::MAX, true, &mut words),
+        _ => sign_framed(printer, usize::MAX, false, &mut words),
     }
 }

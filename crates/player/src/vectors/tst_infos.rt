@@ -3,13 +3,12 @@ ghost use Rattle.std.specs.Prelude.{◌<◌, ◌≤◌, ◌^◌, IfSome, option_
 ghost use Rattle.der.specs.DataValueView.{value_view};
 ghost use Rattle.tsp.specs.Tst.{IsTsaName};
 
+use crate::transcript::{Printer, Words};
 use crate::vectors::requests::{tell_extension, tell_written};
-use crate::vectors::tokens::identity_of;
 use cms::Identity;
-use der::{DataValue, DerFault, Oid};
+use der::{DataValue, Oid};
 use gentime::GenTime;
 use std::alloc::{AllocError, Global};
-use transcript::{Printer, Words};
 use tsp::{
     ObjectIdentifier, TspFault, TstInfo, read_request, read_tst, requests_have_one_reading,
     write_tst,
@@ -39,11 +38,11 @@ fn written(alloc: Global, octets: &[u8]) -> Result<Vec<u8>, TspFault> {
     write_tst(alloc, &tst)
 }
 
-fn read(alloc: Global, printer: Printer<'_>, octets: &[u8]) {
+fn read(printer: Printer<'_>, octets: &[u8]) {
     match read_tst(octets) {
         Ok(tst) => {
             tell_parts(printer, &tst);
-            tell_written(printer, written(alloc, octets), octets);
+            tell_written(printer, written(printer.alloc(), octets), octets);
         }
         Err(fault) => printer.tell(&fault),
     }
@@ -88,10 +87,6 @@ fn name_of(identity: Option<&Identity>) -> Option<DataValue<'_>>
     }
 }
 
-fn policy_of(alloc: Global, text: &str) -> Result<Oid, DerFault> {
-    Oid::parse_text(alloc, text)
-}
-
 /// A number of at least 1 and at most that one.
 fn some(number: u64, most: u64) -> u64
     requires { 1 ≤ most }
@@ -104,13 +99,12 @@ fn some(number: u64, most: u64) -> u64
 /// Tells of the TSTInfo that answers a request, in the name of an identity where there is one: the policy, the serial
 /// number, the moment, the accuracy, the ordering and the request's octets.
 fn tell_answer(
-    alloc: Global,
     printer: Printer<'_>,
     identity: Option<&Identity>,
-    words: Words<'_>,
+    words: &mut Words<'_>,
 ) -> Result<(), AllocError> {
-    let mut words = words;
-    let policy = policy_of(alloc, words.next());
+    let alloc = printer.alloc();
+    let policy = Oid::parse_text(alloc, words.next());
     let serial = some(words.number(), i64::MAX as u64);
     let moment = GenTime::from_micros(words.signed());
     let accuracy = some(words.number(), 1_000_000) as u32;
@@ -129,10 +123,9 @@ fn tell_answer(
 }
 
 /// The same in the name of the subject of a certificate, which stands before the others.
-fn tell_named(alloc: Global, printer: Printer<'_>, words: Words<'_>) -> Result<(), AllocError> {
-    let mut words = words;
-    match identity_of(alloc, printer.names.octets(words.next())) {
-        Ok(identity) => tell_answer(alloc, printer, Some(&identity), words),
+fn tell_named(printer: Printer<'_>, words: &mut Words<'_>) -> Result<(), AllocError> {
+    match Identity::from_certificate(printer.alloc(), printer.names.octets(words.next())) {
+        Ok(identity) => tell_answer(printer, Some(&identity), words),
         Err(fault) => {
             printer.tell(&fault);
             Ok(())
@@ -141,14 +134,14 @@ fn tell_named(alloc: Global, printer: Printer<'_>, words: Words<'_>) -> Result<(
 }
 
 /// Makes the call that the words name.
-pub fn call(alloc: Global, printer: Printer<'_>, words: Words<'_>) -> Result<(), AllocError> {
+pub fn call(printer: Printer<'_>, words: Words<'_>) -> Result<(), AllocError> {
     let mut words = words;
     match words.next() {
         "read" => {
-            read(alloc, printer, &printer.names.octets_of(words.rest)?);
+            read(printer, &printer.names.octets_of(words.rest)?);
             Ok(())
         }
-        "named" => tell_named(alloc, printer, words),
-        _ => tell_answer(alloc, printer, None, words),
+        "named" => tell_named(printer, &mut words),
+        _ => tell_answer(printer, None, &mut words),
     }
 }

@@ -1,21 +1,15 @@
 //! Values under the Distinguished Encoding Rules, as both readers read them.
+use crate::transcript::{Printer, Words};
 use crate::vectors::encodings::tag_of;
 use crate::vectors::trees::is_tree;
 use der::{DataValue, DataValues, DerFault, Tree, check_values, read_tree, read_value};
-use std::alloc::{AllocError, Global};
-use transcript::{Printer, Words};
+use std::alloc::AllocError;
 
 /// Tells of a value that both readers read.
-fn tell_value(
-    alloc: Global,
-    printer: Printer<'_>,
-    tree: Tree,
-    value: DataValue<'_>,
-    octets: &[u8],
-) {
+fn tell_value(printer: Printer<'_>, tree: Tree, value: DataValue<'_>, octets: &[u8]) {
     printer.digits("tag", &[value.tag().octet]);
     printer.number("octets", value.element.content.len() as u64);
-    let is_read = is_tree(alloc, tree, value) == Ok(true);
+    let is_read = is_tree(printer.alloc(), tree, value) == Ok(true);
     if !is_read || check_values(32, octets).is_err() {
         printer.line("  the readers differ");
     }
@@ -30,19 +24,15 @@ fn tell_refusal(printer: Printer<'_>, fault: DerFault, value: Result<DataValue<'
 }
 
 /// Tells how both readers read octets: the value, or the refusal.
-fn read(alloc: Global, printer: Printer<'_>, octets: &[u8]) {
+fn read(printer: Printer<'_>, octets: &[u8]) {
     let value = read_value(octets);
-    match read_tree(alloc, octets) {
+    match read_tree(printer.alloc(), octets) {
         Ok(tree) => match value {
-            Ok(value) => tell_value(alloc, printer, tree, value, octets),
+            Ok(value) => tell_value(printer, tree, value, octets),
             Err(fault) => printer.tell(&(fault, "in place")),
         },
         Err(fault) => tell_refusal(printer, fault, value),
     }
-}
-
-fn levels(octets: &[u8], levels: u64) -> Result<(), DerFault> {
-    check_values((levels % 256) as u8, octets)
 }
 
 /// Where a walk stands: at a value, and before others.
@@ -129,13 +119,13 @@ fn walk(printer: Printer<'_>, octets: &[u8], words: Words<'_>) {
 }
 
 /// Makes the call that the words name.
-pub fn call(alloc: Global, printer: Printer<'_>, words: Words<'_>) -> Result<(), AllocError> {
+pub fn call(printer: Printer<'_>, words: Words<'_>) -> Result<(), AllocError> {
     let mut words = words;
     match words.next() {
-        "read" => read(alloc, printer, &printer.names.octets_of(words.rest)?),
+        "read" => read(printer, &printer.names.octets_of(words.rest)?),
         "levels" => {
-            let count = words.number();
-            printer.tell(&levels(&printer.names.octets_of(words.rest)?, count));
+            let levels = (words.number() % 256) as u8;
+            printer.tell(&check_values(levels, &printer.names.octets_of(words.rest)?));
         }
         _ => {
             let octets = printer.names.octets(words.next());

@@ -1,6 +1,5 @@
 //! What the tables of a database hold.
 use crate::failures::versions::CURRENT;
-use sqlite::types::ValueRef;
 use sqlite::{Alter, Connection, Error, Row};
 use std::alloc::{AllocError, Global};
 
@@ -22,39 +21,15 @@ const VERSION: &str = "SELECT version FROM meta";
 #[derive(Drop, PartialEq)]
 pub struct Dump {
     version: i64,
-    /// The rows of each table, each value with its kind; none for a table that isn't there.
-    tables: Vec<Option<Vec<u8>>>,
+    /// The rows of each table, as texts of their values and kinds; none for a table that isn't there.
+    tables: Vec<Option<String>>,
 }
 
-fn add_octets(dump: &mut Vec<u8>, octets: &[u8]) -> Result<(), AllocError> {
-    dump.extend_from_slice(&(octets.len() as u64).to_be_bytes())?;
-    dump.extend_from_slice(octets)
-}
-
-fn add_value(dump: &mut Vec<u8>, value: ValueRef<'_>) -> Result<(), AllocError> {
-    match value {
-        ValueRef::Null => dump.extend_from_slice(b"n"),
-        ValueRef::Int(number) => {
-            dump.extend_from_slice(b"i")?;
-            dump.extend_from_slice(&number.to_be_bytes())
-        }
-        ValueRef::Real(_) => dump.extend_from_slice(b"r"),
-        ValueRef::Text(octets) => {
-            dump.extend_from_slice(b"t")?;
-            add_octets(dump, octets)
-        }
-        ValueRef::Blob(octets) => {
-            dump.extend_from_slice(b"b")?;
-            add_octets(dump, octets)
-        }
-    }
-}
-
-fn add_row(dump: &mut Vec<u8>, row: &Row) -> anyhow::Result<()> {
-    dump.push(b'\n')?;
+fn add_row(alloc: Global, text: &mut String, row: &Row) -> anyhow::Result<()> {
     for at in 0..row.column_count() {
-        add_value(dump, row.get_ref(at)?)?;
+        text.push_str(&format!(in alloc; " {:?}", row.get_ref(at)?)?)?;
     }
+    text.push('\n')?;
     Ok(())
 }
 
@@ -63,17 +38,17 @@ fn rows_of<S: Alter>(
     alloc: Global,
     conn: &mut Connection<S>,
     query: &str,
-) -> anyhow::Result<Option<Vec<u8>>> {
+) -> anyhow::Result<Option<String>> {
     let rows = match conn.query_all(query, &[]) {
         Ok(rows) => rows,
         Err(Error::SqlInputError(_)) => return Ok(None),
         Err(error) => return Err(error.into()),
     };
-    let mut octets = Vec::new(alloc);
+    let mut text = String::new(alloc);
     for row in &rows {
-        add_row(&mut octets, row)?;
+        add_row(alloc, &mut text, row)?;
     }
-    Ok(Some(octets))
+    Ok(Some(text))
 }
 
 fn version_of<S: Alter>(conn: &mut Connection<S>) -> Result<i64, Error> {
@@ -84,7 +59,7 @@ fn version_of<S: Alter>(conn: &mut Connection<S>) -> Result<i64, Error> {
 fn tables_of<S: Alter>(
     alloc: Global,
     conn: &mut Connection<S>,
-) -> anyhow::Result<Vec<Option<Vec<u8>>>> {
+) -> anyhow::Result<Vec<Option<String>>> {
     let mut tables = Vec::new(alloc);
     for query in TABLES {
         tables.push(rows_of(alloc, conn, query)?)?;
@@ -102,7 +77,7 @@ pub fn dump_of<S: Alter>(alloc: Global, conn: &mut Connection<S>) -> anyhow::Res
 }
 
 /// Whether a table holds what a migration makes of it: the same rows, or none where it wasn't there.
-fn is_kept(before: &Option<Vec<u8>>, now: &Option<Vec<u8>>) -> bool {
+fn is_kept(before: &Option<String>, now: &Option<String>) -> bool {
     let Some(found) = now else {
         return false;
     };
@@ -124,7 +99,7 @@ impl Dump {
         let mut tables = Vec::new(alloc);
         for table in &self.tables {
             let rows = match table {
-                Some(rows) => Some(Vec::from_slice(alloc, rows)?),
+                Some(rows) => Some(String::from_str(alloc, rows)?),
                 None => None,
             };
             tables.push(rows)?;

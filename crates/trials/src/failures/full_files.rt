@@ -1,6 +1,6 @@
 //! Journeys over full files.
 use crate::failures::medium::Medium;
-use crate::failures::openings::{Course, run};
+use crate::failures::openings::{Course, Fates, run};
 use crate::failures::platter::{Outcome, Platter, Reading};
 use crate::failures::trial::{Beginning, Place, Trial};
 use crate::failures::versions::EARLIER;
@@ -21,13 +21,10 @@ impl Trial<'_> {
     /// there is room again. Tells how it ended, and after how many refusals.
     fn fill_once<D: Platter>(
         self,
-        tally: Tally,
+        tally: &mut Tally,
         beginning: &Beginning,
-        place: Place,
-        from: u64,
-        full_calls: u64,
-    ) -> anyhow::Result<(Tally, Option<u64>)> {
-        let fates = place.full(from, from.saturating_add(full_calls));
+        fates: Fates,
+    ) -> anyhow::Result<Option<u64>> {
         let course = Course {
             tries: FULL_CALLS + 2,
             steps: beginning.steps,
@@ -35,8 +32,8 @@ impl Trial<'_> {
         };
         let mut ledger = beginning.ledger.copied()?;
         let left = run::<D>(course, &mut ledger, &beginning.image)?;
-        let tally = self.end_told::<D>(tally, &mut ledger, &left.image, fates)?;
-        Ok((tally, left.refusals))
+        self.end_told::<D>(tally, &mut ledger, &left.image, fates)?;
+        Ok(left.refusals)
     }
 
     /// Makes a journey with no room in a file from each call that writes on: for good, until the files are opened
@@ -45,12 +42,14 @@ impl Trial<'_> {
     fn fill<D: Platter>(self, beginning: &Beginning, place: Place) -> anyhow::Result<()> {
         let (mut tally, mut gone_on) = (Tally::NONE, 0u64);
         for from in 0..MOST_CALLS {
-            let (whole, refusals) = self.fill_once::<D>(tally, beginning, place, from, u64::MAX)?;
-            if refusals == Some(0) {
+            let mut whole = tally;
+            let for_good = place.full(from, u64::MAX);
+            if self.fill_once::<D>(&mut whole, beginning, for_good)? == Some(0) {
                 break;
             }
-            let (whole, refusals) = self.fill_once::<D>(whole, beginning, place, from, FULL_CALLS)?;
             tally = whole;
+            let for_some = place.full(from, from.saturating_add(FULL_CALLS));
+            let refusals = self.fill_once::<D>(&mut tally, beginning, for_some)?;
             gone_on = gone_on.saturating_add(u64::from(refusals.is_some()));
         }
         print!(self.rt;
@@ -93,20 +92,12 @@ impl Trial<'_> {
 }
 
 /// Makes the journey over full files, by both readings of a stop.
-pub fn fill_each(rt: &HostRuntime, setting: &Setting) -> anyhow::Result<()> {
-    for mixes in [true, false] {
+pub fn fill_each<'t>(rt: &'t HostRuntime, setting: &'t Setting) -> anyhow::Result<()> {
+    for (mixes, name) in [(true, "kinder reading"), (false, "warier reading")] {
+        let outcome = Outcome::Written;
         let trial = Trial {
-            rt,
-            setting,
-            reading: Reading {
-                mixes,
-                outcome: Outcome::Written,
-            },
-            name: if mixes {
-                "kinder reading"
-            } else {
-                "warier reading"
-            },
+            name,
+            ..Trial::new(rt, setting, Reading { mixes, outcome })
         };
         trial.fill_each::<Medium>()?;
     }

@@ -26,17 +26,20 @@ fn account<'p, B: Book + Drop>(desk: &Desk<'p, B>, name: &str) -> Option<&'p Acc
     desk.policy().account_named(name)
 }
 
-fn calibrate<B: Book + Drop>(desk: &mut Desk<'_, B>, ledger: &mut Ledger) -> bool {
-    match desk.store().calibrate(&calibration_at(0)) {
-        Ok(_) => true,
+/// Whether a step is done; where it is refused, that has to be as the store does.
+fn is_done<F: PartialEq + Drop>(ledger: &mut Ledger, done: Result<(), F>, stores: F) -> bool {
+    match done {
+        Ok(()) => true,
         Err(fault) => {
-            ledger.expect(
-                fault == StoreFault::Database,
-                "another refusal of a calibration",
-            );
+            ledger.expect(fault == stores, "another refusal");
             false
         }
     }
+}
+
+fn calibrate<B: Book + Drop>(desk: &mut Desk<'_, B>, ledger: &mut Ledger) -> bool {
+    let done = desk.store().calibrate(&calibration_at(0)).map(|_number| ());
+    is_done(ledger, done, StoreFault::Database)
 }
 
 /// The serial number that is next.
@@ -76,12 +79,6 @@ fn stamp<B: Book + Drop>(
     }
 }
 
-/// Whether a fault is the store's.
-fn is_stores(ledger: &mut Ledger, fault: Fault) -> bool {
-    ledger.expect(fault == Fault::Store, "another refusal");
-    false
-}
-
 fn leave<B: Book + Drop>(desk: &mut Desk<'_, B>, ledger: &mut Ledger) -> bool {
     match desk.begin(desk.policy().anonymous(), 0, REQUEST) {
         Ok(Begun::Pending(pending)) => {
@@ -93,7 +90,7 @@ fn leave<B: Book + Drop>(desk: &mut Desk<'_, B>, ledger: &mut Ledger) -> bool {
             ledger.expect(false, "a request is rejected");
             false
         }
-        Err(fault) => is_stores(ledger, fault),
+        Err(fault) => is_done(ledger, Err(fault), Fault::Store),
     }
 }
 
@@ -106,7 +103,7 @@ fn deposit<B: Book + Drop>(desk: &mut Desk<'_, B>, ledger: &mut Ledger) -> bool 
             ledger.deposit = Some(deposited.number);
             true
         }
-        Err(fault) => is_stores(ledger, fault),
+        Err(fault) => is_done(ledger, Err(fault), Fault::Store),
     }
 }
 
@@ -115,23 +112,14 @@ fn set_right<B: Book + Drop>(desk: &mut Desk<'_, B>, ledger: &mut Ledger, is_giv
     let (Some(alice), Some(number)) = (account(desk, "alice"), ledger.deposit) else {
         return false;
     };
-    ledger.sight = Sight::Either;
-    let done = if is_given {
-        desk.grant(alice, number, "bob")
+    let (done, sight) = if is_given {
+        (desk.grant(alice, number, "bob"), Sight::Sees)
     } else {
-        desk.revoke(alice, number, "bob")
+        (desk.revoke(alice, number, "bob"), Sight::SeesNot)
     };
-    match done {
-        Ok(()) => {
-            ledger.sight = if is_given {
-                Sight::Sees
-            } else {
-                Sight::SeesNot
-            };
-            true
-        }
-        Err(fault) => is_stores(ledger, fault),
-    }
+    let is_done = is_done(ledger, done, Fault::Store);
+    ledger.sight = if is_done { sight } else { Sight::Either };
+    is_done
 }
 
 /// Has the other identity succeed.
@@ -140,13 +128,9 @@ fn succeed<'p, B: Book + Drop>(
     setting: &'p Setting,
     ledger: &mut Ledger,
 ) -> bool {
-    match desk.succeed(&setting.successor, &setting.algorithm) {
-        Ok(()) => {
-            ledger.is_succeeded = true;
-            true
-        }
-        Err(fault) => is_stores(ledger, fault),
-    }
+    let done = desk.succeed(&setting.successor, &setting.algorithm);
+    ledger.is_succeeded = is_done(ledger, done, Fault::Store);
+    ledger.is_succeeded
 }
 
 /// Adds two holds, and a right of a group between them, in one commit.
@@ -159,19 +143,10 @@ fn append<B: Book + Drop>(desk: &mut Desk<'_, B>, ledger: &mut Ledger) -> bool {
         number,
         reader: Reader::Group(READERS),
     };
-    match desk
-        .store()
-        .append(&[Entry::Held(first), right, Entry::Held(second)])
-    {
-        Ok(()) => {
-            ledger.is_appended = true;
-            true
-        }
-        Err(fault) => {
-            ledger.expect(fault == StoreFault::Database, "another refusal of entries");
-            false
-        }
-    }
+    let entries = [Entry::Held(first), right, Entry::Held(second)];
+    let done = desk.store().append(&entries);
+    ledger.is_appended = is_done(ledger, done, StoreFault::Database);
+    ledger.is_appended
 }
 
 /// Takes the step that isn't acknowledged yet, and tells whether it is then. Where it is looked at, no call of the disk
@@ -187,8 +162,8 @@ fn take_step<'p, B: Book + Drop>(
         Step::Stamp => stamp(desk, ledger, 0, look),
         Step::Leave => leave(desk, ledger),
         Step::Deposit => deposit(desk, ledger),
-        Step::Grant => set_right(desk, ledger, true),
-        Step::Revoke => set_right(desk, ledger, false),
+        Step::Give => set_right(desk, ledger, true),
+        Step::Take => set_right(desk, ledger, false),
         Step::Succeed => succeed(desk, setting, ledger),
         Step::StampLater | Step::StampUnder => stamp(desk, ledger, LATER, look),
         Step::Append => append(desk, ledger),

@@ -16,9 +16,9 @@ pub enum Step {
     /// alice's deposit.
     Deposit,
     /// A right to it for bob.
-    Grant,
+    Give,
     /// That right is taken again.
-    Revoke,
+    Take,
     /// A request a day later.
     StampLater,
     /// Another identity succeeds.
@@ -44,9 +44,9 @@ impl Step {
             Step::Calibrate => Step::Stamp,
             Step::Stamp => Step::Leave,
             Step::Leave => Step::Deposit,
-            Step::Deposit => Step::Grant,
-            Step::Grant => Step::Revoke,
-            Step::Revoke => Step::StampLater,
+            Step::Deposit => Step::Give,
+            Step::Give => Step::Take,
+            Step::Take => Step::StampLater,
             Step::StampLater => Step::Succeed,
             Step::Succeed => Step::StampUnder,
             Step::StampUnder => Step::Append,

@@ -1,5 +1,5 @@
 //! A counter over two files, from their opening to a stop.
-use crate::books::{Opened, OverBook, OverConnection, adopt, create, over_store};
+use crate::books::{Opened, OverBook, OverConnection, opened, over_store};
 use crate::failures::checks::{check, check_succession, check_void};
 use crate::failures::dump::{Dump, dump_of};
 use crate::failures::journey;
@@ -81,19 +81,6 @@ pub struct Left {
     /// How many commands were refused before each step was acknowledged; none where one wasn't.
     pub refusals: Option<u64>,
 }
-
-/// How far a counter came.
-#[derive(Clone, Copy)]
-struct Progress {
-    is_opened: bool,
-    refusals: Option<u64>,
-}
-
-/// The files weren't opened.
-const UNOPENED: Progress = Progress {
-    is_opened: false,
-    refusals: None,
-};
 
 fn hold<D: Platter>(course: Course<'_>, octets: &[u8], fate: Fate) -> io::Result<Fuse<D>> {
     let file = D::holding(course.alloc, octets, course.reading, fate)?;
@@ -203,9 +190,9 @@ fn migrate<S: Alter + Drop>(
 
 /// A store over the connection, whose tables are made where none are there and none were told of.
 fn store_over<S: Alter + Drop>(alloc: Global, conn: Connection<S>, is_made: bool) -> Opened<S> {
-    match adopt(alloc, conn) {
+    match opened(alloc, conn, false) {
         Ok(store) => Ok(store),
-        Err((StoreFault::NotOurs, conn)) if !is_made => create(alloc, conn),
+        Err((StoreFault::NotOurs, conn)) if !is_made => opened(alloc, conn, true),
         Err(refused) => Err(refused),
     }
 }
@@ -222,12 +209,12 @@ fn look_at<B: Book + Drop>(
     Ok(())
 }
 
-/// Goes on at a desk.
+/// Goes on at a desk: how many refusals there were, or none where a step is refused each time.
 fn go_on_at<'s, B: Book + Drop>(
     course: Course<'s>,
     ledger: &mut Ledger,
     desk: &mut Desk<'s, B>,
-) -> Result<Progress, AllocError> {
+) -> Result<Option<u64>, AllocError> {
     if course.look == Look::Void {
         check_void(course.alloc, desk, ledger);
     }
@@ -241,10 +228,7 @@ fn go_on_at<'s, B: Book + Drop>(
         course.look,
     );
     look_at(course, ledger, desk)?;
-    Ok(Progress {
-        is_opened: true,
-        refusals,
-    })
+    Ok(refusals)
 }
 
 /// A desk over a book, under the identity that was told last.
@@ -257,12 +241,12 @@ fn open<'s, B: Book + Drop>(
     Desk::open(course.alloc, settings, book)
 }
 
-/// A course over files, and how far it came.
+/// A course over files, and what it leaves.
 #[derive(Drop)]
 struct Going<'c, 'l> {
     course: Course<'c>,
     ledger: &'l mut Ledger,
-    progress: Progress,
+    left: Left,
 }
 
 impl OverBook for Going<'_, '_> {
@@ -273,7 +257,8 @@ impl OverBook for Going<'_, '_> {
         }
         match open(self.course, self.ledger, book) {
             Ok(mut desk) => {
-                self.progress = go_on_at(self.course, self.ledger, &mut desk)?;
+                self.left.refusals = go_on_at(self.course, self.ledger, &mut desk)?;
+                self.left.is_opened = true;
                 Ok(desk.into_store())
             }
             Err((fault, book)) => {
@@ -348,16 +333,21 @@ pub fn run<D: Platter>(
     ledger: &mut Ledger,
     image: &Image,
 ) -> anyhow::Result<Left> {
+    let left = Left {
+        image: Image::empty(course.alloc),
+        is_opened: false,
+        refusals: None,
+    };
     let mut going = Going {
         course,
         ledger,
-        progress: UNOPENED,
+        left,
     };
     let image = over_files::<D, _>(course, image, &mut going)?;
     Ok(Left {
         image,
-        is_opened: going.progress.is_opened,
-        refusals: going.progress.refusals,
+        is_opened: going.left.is_opened,
+        refusals: going.left.refusals,
     })
 }
 

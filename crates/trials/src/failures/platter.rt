@@ -24,34 +24,8 @@ pub struct Reading {
     pub outcome: Outcome,
 }
 
-impl Reading {
-    /// Each reading, with what each stop leaves.
-    pub const ALL: [Reading; 6] = [
-        Reading {
-            mixes: true,
-            outcome: Outcome::Written,
-        },
-        Reading {
-            mixes: true,
-            outcome: Outcome::Synced,
-        },
-        Reading {
-            mixes: true,
-            outcome: Outcome::Torn,
-        },
-        Reading {
-            mixes: false,
-            outcome: Outcome::Written,
-        },
-        Reading {
-            mixes: false,
-            outcome: Outcome::Synced,
-        },
-        Reading {
-            mixes: false,
-            outcome: Outcome::Torn,
-        },
-    ];
+impl Outcome {
+    pub const ALL: [Outcome; 3] = [Outcome::Written, Outcome::Synced, Outcome::Torn];
 }
 
 /// When a file fails.

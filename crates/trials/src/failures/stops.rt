@@ -3,7 +3,7 @@ use crate::failures::ledger::{Ledger, Step};
 use crate::failures::medium::Medium;
 use crate::failures::openings::{Course, Fates, Image, Left, Look, run};
 use crate::failures::platter::{Outcome, Platter, Reading};
-use crate::failures::trial::{Beginning, Place, Trial, name_of};
+use crate::failures::trial::{Beginning, Place, Trial};
 use crate::failures::versions::EARLIER;
 use crate::setting::Setting;
 use crate::tally::Tally;
@@ -14,9 +14,6 @@ const MOST_CALLS: u64 = 10_000;
 
 /// Of how many stops of the first opening one is followed by stops of the second.
 const STRIDE: u64 = 5;
-
-/// Behind how many steps a migration is followed by second stops: bob has his right then, and it isn't taken yet.
-const STEPS_BEFORE: u64 = 5;
 
 /// Journeys that were stopped at calls of each file, and those of them that were stopped again in the opening after it.
 #[derive(Clone, Copy)]
@@ -34,12 +31,11 @@ impl Stops {
         pairs: Tally::NONE,
     };
 
-    /// Both together.
-    fn plus(self, other: Stops) -> Stops {
-        Stops {
-            log: self.log.plus(other.log),
-            database: self.database.plus(other.database),
-            pairs: self.pairs.plus(other.pairs),
+    /// Those at calls of a file.
+    fn at(&mut self, place: Place) -> &mut Tally {
+        match place {
+            Place::Log => &mut self.log,
+            Place::Database => &mut self.database,
         }
     }
 }
@@ -61,7 +57,7 @@ impl Trial<'_> {
         let mut ledger = ledger.copied()?;
         let left = run::<D>(course, &mut ledger, image)?;
         if !left.is_opened {
-            *tally = self.end_told::<D>(*tally, &mut ledger, &left.image, fates)?;
+            self.end_told::<D>(tally, &mut ledger, &left.image, fates)?;
         }
         Ok(!left.is_opened)
     }
@@ -72,50 +68,26 @@ impl Trial<'_> {
         ledger: &Ledger,
         image: &Image,
         place: Place,
-    ) -> anyhow::Result<Tally> {
-        let mut tally = Tally::NONE;
+        pairs: &mut Tally,
+    ) -> anyhow::Result<()> {
         for calls in 0..MOST_CALLS {
-            if !self.stop_opening::<D>(ledger, image, place.stop(calls), &mut tally)? {
+            if !self.stop_opening::<D>(ledger, image, place.stop(calls), pairs)? {
                 break;
             }
         }
-        Ok(tally)
+        Ok(())
     }
 
-    /// Stops each of the two files during the opening after a stop.
-    fn stop_pairs<D: Platter>(self, ledger: &Ledger, image: &Image) -> anyhow::Result<Tally> {
-        let mut pairs = Tally::NONE;
-        for place in Place::BOTH {
-            pairs = pairs.plus(self.stop_openings::<D>(ledger, image, place)?);
-        }
-        Ok(pairs)
-    }
-
-    /// Goes on after a stop, where that is asked for with stops in the opening after it too.
-    fn go_on<D: Platter>(
-        self,
-        ledger: &mut Ledger,
-        image: &Image,
-        fates: Fates,
-        has_pairs: bool,
-        tallies: (Tally, Tally),
-    ) -> anyhow::Result<(Tally, Tally)> {
-        let (tally, mut pairs) = tallies;
-        if has_pairs {
-            pairs = pairs.plus(self.stop_pairs::<D>(ledger, image)?);
-        }
-        let tally = self.end_told::<D>(tally, ledger, image, fates)?;
-        Ok((tally, pairs))
-    }
-
-    /// Stops a file after a number of calls. Adds to both tallies, or answers none where there was no stop.
+    /// Stops a file after a number of calls, and at each fifth of them files once more in the opening after it, where
+    /// that is asked for. Tells whether there was a stop.
     fn stop_at<D: Platter>(
         self,
         beginning: &Beginning,
-        fates: Fates,
-        has_pairs: bool,
-        tallies: (Tally, Tally),
-    ) -> anyhow::Result<Option<(Tally, Tally)>> {
+        place: Place,
+        calls: u64,
+        stops: &mut Stops,
+    ) -> anyhow::Result<bool> {
+        let fates = place.stop(calls);
         let course = Course {
             steps: beginning.steps,
             ..self.course(fates)
@@ -123,44 +95,38 @@ impl Trial<'_> {
         let mut ledger = beginning.ledger.copied()?;
         let left = run::<D>(course, &mut ledger, &beginning.image)?;
         if left.refusals.is_some() {
-            return Ok(None);
+            return Ok(false);
         }
-        let tallies = self.go_on::<D>(&mut ledger, &left.image, fates, has_pairs, tallies)?;
-        Ok(Some(tallies))
+        if self.has_pairs && calls % STRIDE == 0 {
+            for place in Place::BOTH {
+                self.stop_openings::<D>(&ledger, &left.image, place, &mut stops.pairs)?;
+            }
+        }
+        self.end_told::<D>(stops.at(place), &mut ledger, &left.image, fates)?;
+        Ok(true)
     }
 
-    /// Stops a file after each number of calls, until a journey ends without a stop. Where that is asked for, at each
-    /// fifth of them files are stopped once more in the opening after it. Answers both.
+    /// Stops a file after each number of calls, until a journey ends without a stop.
     fn stop<D: Platter>(
         self,
         beginning: &Beginning,
         place: Place,
-        has_pairs: bool,
-    ) -> anyhow::Result<(Tally, Tally)> {
-        let mut tallies = (Tally::NONE, Tally::NONE);
+        stops: &mut Stops,
+    ) -> anyhow::Result<()> {
         for calls in 0..MOST_CALLS {
-            let has_pairs = has_pairs && calls % STRIDE == 0;
-            match self.stop_at::<D>(beginning, place.stop(calls), has_pairs, tallies)? {
-                Some(more) => tallies = more,
-                None => break,
+            if !self.stop_at::<D>(beginning, place, calls, stops)? {
+                break;
             }
         }
-        Ok(tallies)
+        Ok(())
     }
 
     /// Stops each of the two files.
-    fn stop_both<D: Platter>(
-        self,
-        beginning: &Beginning,
-        has_pairs: bool,
-    ) -> anyhow::Result<Stops> {
-        let (log, log_pairs) = self.stop::<D>(beginning, Place::Log, has_pairs)?;
-        let (database, pairs) = self.stop::<D>(beginning, Place::Database, has_pairs)?;
-        Ok(Stops {
-            log,
-            database,
-            pairs: pairs.plus(log_pairs),
-        })
+    fn stop_both<D: Platter>(self, beginning: &Beginning, stops: &mut Stops) -> anyhow::Result<()> {
+        for place in Place::BOTH {
+            self.stop::<D>(beginning, place, stops)?;
+        }
+        Ok(())
     }
 
     /// Takes the first step, and one that is stopped between a reservation and its signature: what is left.
@@ -170,36 +136,29 @@ impl Trial<'_> {
         run::<D>(course, ledger, &left.image)
     }
 
-    /// The same, and goes on behind it.
-    fn go_on_void<D: Platter>(self, course: Course<'_>, ledger: &mut Ledger) -> anyhow::Result<()> {
-        let left = self.leave::<D>(course, ledger)?;
-        ledger.step = Step::StampLater;
-        let course = Course {
-            look: Look::Void,
-            ..course
-        };
-        let left = run::<D>(course, ledger, &left.image)?;
-        ledger.expect(left.refusals == Some(0), "the journey doesn't go on");
-        Ok(())
-    }
-
-    /// Stops between a reservation and its signature.
+    /// Stops between a reservation and its signature, and goes on behind it.
     fn leave_void<D: Platter>(self) -> anyhow::Result<Tally> {
-        let course = Course {
+        let mut course = Course {
             steps: 1,
             ..self.course(Fates::NONE)
         };
         let mut ledger = Ledger::new(self.alloc())?;
-        self.go_on_void::<D>(course, &mut ledger)?;
+        let left = self.leave::<D>(course, &mut ledger)?;
+        ledger.step = Step::StampLater;
+        course.look = Look::Void;
+        let left = run::<D>(course, &mut ledger, &left.image)?;
+        ledger.expect(left.refusals == Some(0), "the journey doesn't go on");
         let has_next = ledger
             .grants
             .last()
             .is_some_and(|granted| granted.serial == 2);
         ledger.expect(has_next, "the next serial number isn't 2");
-        self.tell(Tally::NONE, &ledger, Fates::NONE)
+        let mut tally = Tally::NONE;
+        self.tell(&mut tally, &ledger, Fates::NONE)?;
+        Ok(tally)
     }
 
-    fn tell_stops(self, stops: Stops, has_pairs: bool, wrong: u64) -> anyhow::Result<()> {
+    fn tell_stops(self, stops: Stops, wrong: u64) -> anyhow::Result<()> {
         let Stops {
             log,
             database,
@@ -207,7 +166,7 @@ impl Trial<'_> {
         } = stops;
         print!(self.rt; "{}: {} stops at calls of the log", self.name, log.tried)?;
         print!(self.rt; ", {} of the database file", database.tried)?;
-        if has_pairs {
+        if self.has_pairs {
             print!(self.rt; ", {} pairs of every {STRIDE}th", pairs.tried)?;
         }
         let wrong = log.plus(database).plus(pairs).wrong.saturating_add(wrong);
@@ -216,27 +175,16 @@ impl Trial<'_> {
     }
 
     /// Makes the journey with each stop.
-    fn stop_each<D: Platter>(self, has_pairs: bool) -> anyhow::Result<()> {
-        let stops = self.stop_both::<D>(&self.nothing()?, has_pairs)?;
+    fn stop_each<D: Platter>(self) -> anyhow::Result<()> {
+        let mut stops = Stops::NONE;
+        self.stop_both::<D>(&self.nothing()?, &mut stops)?;
         let void = self.leave_void::<D>()?;
-        self.tell_stops(stops, has_pairs, void.wrong)
+        self.tell_stops(stops, void.wrong)
     }
 
-    /// Takes tables of an earlier version to that of now behind so many steps, with each stop of it and of the step
+    /// Takes tables of an earlier version to that of now between each two steps, with each stop of it and of the step
     /// behind it.
-    fn stop_behind<D: Platter>(
-        self,
-        version: i64,
-        before: u64,
-        has_pairs: bool,
-    ) -> anyhow::Result<Stops> {
-        let mut beginning = self.earlier::<D>(version, before)?;
-        beginning.steps = 1;
-        self.stop_both::<D>(&beginning, has_pairs && before == STEPS_BEFORE)
-    }
-
-    /// The same between each two steps.
-    fn stop_migrations<D: Platter>(self, version: i64, has_pairs: bool) -> anyhow::Result<()> {
+    fn stop_migrations<D: Platter>(self, version: i64) -> anyhow::Result<()> {
         let name = format!(in self.alloc(); "{}, tables of version {version}", self.name)?;
         let trial = Trial {
             name: name.as_str(),
@@ -244,58 +192,53 @@ impl Trial<'_> {
         };
         let mut stops = Stops::NONE;
         for before in 0..=Step::BEFORE_SUCCESSION {
-            stops = stops.plus(trial.stop_behind::<D>(version, before, has_pairs)?);
+            let mut beginning = trial.earlier::<D>(version, before)?;
+            beginning.steps = 1;
+            trial.stop_both::<D>(&beginning, &mut stops)?;
         }
-        trial.tell_stops(stops, has_pairs, 0)
+        trial.tell_stops(stops, 0)
     }
 }
 
 /// Makes the journey with each stop, by both readings of a stop.
-pub fn stop_each(rt: &HostRuntime, setting: &Setting) -> anyhow::Result<()> {
-    for reading in Reading::ALL {
-        let trial = Trial {
-            rt,
-            setting,
-            reading,
-            name: name_of(reading),
-        };
-        trial.stop_each::<Medium>(reading.outcome != Outcome::Written)?;
+pub fn stop_each<'t>(rt: &'t HostRuntime, setting: &'t Setting) -> anyhow::Result<()> {
+    for mixes in [true, false] {
+        for outcome in Outcome::ALL {
+            let mut trial = Trial::new(rt, setting, Reading { mixes, outcome });
+            trial.has_pairs = outcome != Outcome::Written;
+            trial.stop_each::<Medium>()?;
+        }
     }
     Ok(())
 }
 
 /// Makes it with migrations of tables of that version between its steps, by both readings, where what isn't synced is
 /// lost.
-pub fn stop_migrations(rt: &HostRuntime, setting: &Setting, version: i64) -> anyhow::Result<()> {
-    for reading in Reading::ALL {
-        if reading.outcome != Outcome::Synced {
-            continue;
-        }
-        let trial = Trial {
-            rt,
-            setting,
-            reading,
-            name: name_of(reading),
-        };
-        trial.stop_migrations::<Medium>(version, false)?;
+pub fn stop_migrations<'t>(
+    rt: &'t HostRuntime,
+    setting: &'t Setting,
+    version: i64,
+) -> anyhow::Result<()> {
+    for mixes in [true, false] {
+        let outcome = Outcome::Synced;
+        Trial::new(rt, setting, Reading { mixes, outcome }).stop_migrations::<Medium>(version)?;
     }
     Ok(())
 }
 
 /// Makes it, with migrations too, over the toolchain's own file in memory, which knows the warier reading alone.
-pub fn stop_memory(rt: &HostRuntime, setting: &Setting) -> anyhow::Result<()> {
-    let trial = Trial {
-        rt,
-        setting,
-        reading: Reading {
-            mixes: false,
-            outcome: Outcome::Synced,
-        },
-        name: "the toolchain's memory",
+pub fn stop_memory<'t>(rt: &'t HostRuntime, setting: &'t Setting) -> anyhow::Result<()> {
+    let reading = Reading {
+        mixes: false,
+        outcome: Outcome::Synced,
     };
-    trial.stop_each::<Memory>(false)?;
+    let trial = Trial {
+        name: "the toolchain's memory",
+        ..Trial::new(rt, setting, reading)
+    };
+    trial.stop_each::<Memory>()?;
     for version in EARLIER {
-        trial.stop_migrations::<Memory>(version, false)?;
+        trial.stop_migrations::<Memory>(version)?;
     }
     Ok(())
 }

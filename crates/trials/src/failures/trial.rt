@@ -1,5 +1,4 @@
 //! What journeys are made over, where they begin and fail, and what has to hold of them.
-use crate::failures::dump::Dump;
 use crate::failures::ledger::{Ledger, Step, Tables};
 use crate::failures::openings::{Course, Fates, Image, Look, age, run};
 use crate::failures::platter::{Fate, Outcome, Platter, Reading};
@@ -65,9 +64,22 @@ pub struct Trial<'t> {
     pub setting: &'t Setting,
     pub reading: Reading,
     pub name: &'t str,
+    /// Whether stops are followed by others in the opening after them.
+    pub has_pairs: bool,
 }
 
 impl<'t> Trial<'t> {
+    /// Over files of a reading.
+    pub fn new(rt: &'t HostRuntime, setting: &'t Setting, reading: Reading) -> Trial<'t> {
+        Trial {
+            rt,
+            setting,
+            reading,
+            name: name_of(reading),
+            has_pairs: false,
+        }
+    }
+
     pub fn alloc(self) -> Global {
         self.rt.alloc()
     }
@@ -94,19 +106,6 @@ impl<'t> Trial<'t> {
         })
     }
 
-    /// Takes the first steps, and their tables back to an earlier version: what the files hold then, and the tables.
-    fn aged<D: Platter>(
-        self,
-        course: Course<'_>,
-        ledger: &mut Ledger,
-        version: i64,
-    ) -> anyhow::Result<(Image, Dump)> {
-        let left = run::<D>(course, ledger, &Image::empty(self.alloc()))?;
-        let is_done = left.refusals == Some(0);
-        ledger.expect(is_done, "the first steps aren't taken");
-        age::<D>(course, &left.image, version)
-    }
-
     /// What comes behind so many steps, over tables of an earlier version.
     pub fn earlier<D: Platter>(self, version: i64, before: u64) -> anyhow::Result<Beginning> {
         let course = Course {
@@ -114,7 +113,9 @@ impl<'t> Trial<'t> {
             ..self.course(Fates::NONE)
         };
         let mut ledger = Ledger::new(self.alloc())?;
-        let (image, dump) = self.aged::<D>(course, &mut ledger, version)?;
+        let left = run::<D>(course, &mut ledger, &Image::empty(self.alloc()))?;
+        ledger.expect(left.refusals == Some(0), "the first steps aren't taken");
+        let (image, dump) = age::<D>(course, &left.image, version)?;
         ledger.tables = Tables::Earlier(dump);
         Ok(Beginning {
             image,
@@ -141,28 +142,27 @@ impl<'t> Trial<'t> {
     /// The same, and what was found wrong in the journey, which is one more.
     pub fn end_told<D: Platter>(
         self,
-        tally: Tally,
+        tally: &mut Tally,
         ledger: &mut Ledger,
         image: &Image,
         fates: Fates,
-    ) -> anyhow::Result<Tally> {
+    ) -> anyhow::Result<()> {
         self.end::<D>(ledger, image)?;
         self.tell(tally, ledger, fates)
     }
 
     /// One journey more, and what was found wrong in it.
-    pub fn tell(self, tally: Tally, ledger: &Ledger, fates: Fates) -> anyhow::Result<Tally> {
-        let mut tally = tally;
+    pub fn tell(self, tally: &mut Tally, ledger: &Ledger, fates: Fates) -> anyhow::Result<()> {
         tally.add(ledger.wrong().is_none());
         if let Some(what) = ledger.wrong() {
             println!(self.rt; "  {}, {fates:?}: {what}", self.name)?;
         }
-        Ok(tally)
+        Ok(())
     }
 }
 
 /// What is told of a reading.
-pub fn name_of(reading: Reading) -> &'static str {
+fn name_of(reading: Reading) -> &'static str {
     match (reading.mixes, reading.outcome) {
         (true, Outcome::Written) => "kinder reading, all stays",
         (true, Outcome::Synced) => "kinder reading, what isn't synced is lost",

@@ -1,45 +1,17 @@
 //! Whole answers (docs/clients.md).
 
-/// The phrases of the statuses (RFC 9110 15).
-const PHRASES: [(u16, &str); 12] = [
-    (200, "OK"),
-    (201, "Created"),
-    (400, "Bad Request"),
-    (403, "Forbidden"),
-    (404, "Not Found"),
-    (405, "Method Not Allowed"),
-    (409, "Conflict"),
-    (411, "Length Required"),
-    (413, "Content Too Large"),
-    (415, "Unsupported Media Type"),
-    (501, "Not Implemented"),
-    (503, "Service Unavailable"),
-];
+/// The statuses with their phrases, each before an end of line (RFC 9110 15).
+const STATUSES: &str =
+    "200 OK\n201 Created\n400 Bad Request\n403 Forbidden\n404 Not Found\n405 Method Not Allowed\n\
+    409 Conflict\n411 Length Required\n413 Content Too Large\n415 Unsupported Media Type\n501 Not Implemented\n\
+    503 Service Unavailable\n";
 
 /// The bodies of refusals where store, signer and memory answer.
-const REFUSALS: [&str; 21] = [
-    "400 BadLength\n",
-    "400 BadRange\n",
-    "400 BadReference\n",
-    "400 BadRequest\n",
-    "400 SelfGrant\n",
-    "400 UnknownGroup\n",
-    "400 UnknownReader\n",
-    "403 NoAccount\n",
-    "403 NotAuditor\n",
-    "403 NotOwner\n",
-    "403 rule 07\n",
-    "403 rule 11\n",
-    "404 NoRoute\n",
-    "404 NotHere\n",
-    "405 Method\n",
-    "409 Conflict\n",
-    "411 Length\n",
-    "413 TooLarge\n",
-    "415 Type\n",
-    "501 TransferEncoding\n",
-    "503 rule 10\n",
-];
+const REFUSALS: &str =
+    "400 BadLength\n400 BadRange\n400 BadReference\n400 BadRequest\n400 SelfGrant\n\
+    400 UnknownGroup\n400 UnknownReader\n403 NoAccount\n403 NotAuditor\n403 NotOwner\n403 rule 07\n403 rule 11\n\
+    404 NoRoute\n404 NotHere\n405 Method\n409 Conflict\n411 Length\n413 TooLarge\n415 Type\n501 TransferEncoding\n\
+    503 rule 10\n";
 
 /// The types of the answers of status 200 and 201.
 const TYPES: [&str; 4] = [
@@ -49,34 +21,26 @@ const TYPES: [&str; 4] = [
     "text/plain",
 ];
 
-/// What stands behind a field's name, and the lines after it.
-fn field<'t>(text: &'t str, name: &str) -> Option<(&'t str, &'t str)> {
-    let Some(rest) = text.strip_prefix(name) else {
-        return None;
-    };
-    let Some(rest) = rest.strip_prefix(": ") else {
-        return None;
-    };
-    rest.split_once("\r\n")
+/// Whether a text begins with the status and a space.
+fn has_status(text: &str, status: u16) -> bool {
+    match text.split_once(' ') {
+        Some((number, _)) => number.parse() == Ok(status),
+        None => false,
+    }
 }
 
-/// Whether a status line is that of the status.
-fn is_status_line(line: &str, status: u16) -> bool {
-    let Some(line) = line.strip_prefix("HTTP/1.1 ") else {
-        return false;
-    };
-    let Some((number, phrase)) = line.split_once(' ') else {
-        return false;
-    };
-    number.parse() == Ok(status) && PHRASES.contains(&(status, phrase))
+/// What stands behind a field's name, and the lines after it.
+fn field<'t>(text: &'t str, name: &str) -> Option<(&'t str, &'t str)> {
+    text.strip_prefix(name)?
+        .strip_prefix(": ")?
+        .split_once("\r\n")
 }
 
 /// What stands behind the status line, if it is that of the status.
 fn behind_status(head: &str, status: u16) -> Option<&str> {
-    match head.split_once("\r\n") {
-        Some((line, rest)) if is_status_line(line, status) => Some(rest),
-        _ => None,
-    }
+    let (line, rest) = head.strip_prefix("HTTP/1.1 ")?.split_once("\r\n")?;
+    let is_one = has_status(line, status) && STATUSES.lines().any(|known| known == line);
+    is_one.then_some(rest)
 }
 
 /// What stands behind the field that tells other methods, where the status is that.
@@ -89,15 +53,8 @@ fn behind_allow(fields: &str, status: u16) -> &str {
 
 /// Whether the fields are those of an answer of the status with a body of so many octets: its type.
 fn type_of(head: &str, status: u16, length: usize) -> Option<&str> {
-    let Some(fields) = behind_status(head, status) else {
-        return None;
-    };
-    let Some((kind, rest)) = field(fields, "Content-Type") else {
-        return None;
-    };
-    let Some((count, rest)) = field(rest, "Content-Length") else {
-        return None;
-    };
+    let (kind, rest) = field(behind_status(head, status)?, "Content-Type")?;
+    let (count, rest) = field(rest, "Content-Length")?;
     let is_whole = count.parse() == Ok(length)
         && behind_allow(rest, status) == "Connection: close\r\n";
     is_whole.then_some(kind)
@@ -105,10 +62,9 @@ fn type_of(head: &str, status: u16, length: usize) -> Option<&str> {
 
 /// Whether a refusal's body is one that its status may have.
 fn is_refusal(status: u16, body: &[u8]) -> bool {
-    REFUSALS.iter().any(|text| {
-        let number = text.split_once(' ').map(|(number, _)| number);
-        text.as_bytes() == body && number.and_then(|digits| digits.parse().ok()) == Some(status)
-    })
+    REFUSALS
+        .split_inclusive('\n')
+        .any(|text| text.as_bytes() == body && has_status(text, status))
 }
 
 /// Where the body begins.

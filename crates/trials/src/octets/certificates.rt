@@ -5,69 +5,37 @@ use crate::tally::Tally;
 use cms::{Algorithm, CmsFault, Identity};
 use std::alloc::Global;
 
-/// Octets as a certificate, and how many were one.
+/// Octets as an `identity` or an `algorithm`, and how many were one.
 #[derive(Drop)]
-struct Certificates {
+struct Values<'k> {
     alloc: Global,
+    kind: &'k str,
     found: u64,
 }
 
-impl Subject for Certificates {
+/// Whether octets are an identity's, of which they are the whole certificate; a fault is wrong where it is another one.
+fn is_identity(alloc: Global, octets: &[u8]) -> Result<bool, CmsFault> {
+    Ok(Identity::from_certificate(alloc, octets)?.certificate() == octets)
+}
+
+/// The same of an AlgorithmIdentifier.
+fn is_algorithm(alloc: Global, octets: &[u8]) -> Result<bool, CmsFault> {
+    Ok(Algorithm::from_bytes(alloc, octets)?.as_slice() == octets)
+}
+
+impl Subject for Values<'_> {
     fn takes(&mut self, octets: &[u8]) -> bool {
-        match Identity::from_certificate(self.alloc, octets) {
-            Ok(identity) => {
+        let told = match self.kind {
+            "identity" => is_identity(self.alloc, octets),
+            _ => is_algorithm(self.alloc, octets),
+        };
+        match told {
+            Ok(is_whole) => {
                 self.found = self.found.saturating_add(1);
-                identity.certificate() == octets
+                is_whole
             }
             Err(fault) => fault == CmsFault::NotCertificate,
         }
-    }
-}
-
-/// Octets as an AlgorithmIdentifier, and how many were one.
-#[derive(Drop)]
-struct Algorithms {
-    alloc: Global,
-    found: u64,
-}
-
-impl Subject for Algorithms {
-    fn takes(&mut self, octets: &[u8]) -> bool {
-        match Algorithm::from_bytes(self.alloc, octets) {
-            Ok(algorithm) => {
-                self.found = self.found.saturating_add(1);
-                algorithm.as_slice() == octets
-            }
-            Err(fault) => fault == CmsFault::NotCertificate,
-        }
-    }
-}
-
-fn try_certificate(rt: &HostRuntime, octets: &mut [u8]) -> anyhow::Result<(Tally, u64)> {
-    let mut subject = Certificates {
-        alloc: rt.alloc(),
-        found: 0,
-    };
-    let length = octets.len();
-    let tally = try_all(rt, &mut subject, octets, length)?;
-    Ok((tally, subject.found))
-}
-
-fn try_algorithm(rt: &HostRuntime, octets: &mut [u8]) -> anyhow::Result<(Tally, u64)> {
-    let mut subject = Algorithms {
-        alloc: rt.alloc(),
-        found: 0,
-    };
-    let length = octets.len();
-    let tally = try_all(rt, &mut subject, octets, length)?;
-    Ok((tally, subject.found))
-}
-
-/// Tries octets as an `identity` or an `algorithm`: how many, and how many were one.
-fn try_octets(rt: &HostRuntime, kind: &str, octets: &mut [u8]) -> anyhow::Result<(Tally, u64)> {
-    match kind {
-        "identity" => try_certificate(rt, octets),
-        _ => try_algorithm(rt, octets),
     }
 }
 
@@ -75,10 +43,15 @@ fn try_octets(rt: &HostRuntime, kind: &str, octets: &mut [u8]) -> anyhow::Result
 pub fn try_line(rt: &HostRuntime, kind: &str, line: &str) -> anyhow::Result<Tally> {
     let (name, digits) = word(line);
     let mut octets = octets(rt.alloc(), digits)?;
-    let (tally, found) = try_octets(rt, kind, &mut octets)?;
+    let mut values = Values {
+        alloc: rt.alloc(),
+        kind,
+        found: 0,
+    };
+    let tally = try_all(rt, &mut values, &mut octets)?;
     println!(rt;
-        "{kind} {name}: {} tried, {found} found; {} wrong",
-        tally.tried, tally.wrong
+        "{kind} {name}: {} tried, {} found; {} wrong",
+        tally.tried, values.found, tally.wrong
     )?;
     Ok(tally)
 }

@@ -33,21 +33,6 @@ fn try_one<S: Subject>(
     Ok(())
 }
 
-/// Tries each front of the octets, the empty one and the whole.
-fn try_fronts<S: Subject>(
-    rt: &HostRuntime,
-    subject: &mut S,
-    octets: &[u8],
-    tally: &mut Tally,
-) -> io::Result<()> {
-    for length in 0..=octets.len() {
-        if let Some(front) = octets.get(..length) {
-            try_one(rt, subject, front, tally)?;
-        }
-    }
-    Ok(())
-}
-
 fn set(octets: &mut [u8], at: usize, value: u8) {
     if let Some(octet) = octets.get_mut(at) {
         *octet = value;
@@ -75,17 +60,20 @@ fn try_values<S: Subject>(
     Ok(())
 }
 
-/// Tries each front of the octets, the whole too, and each change of one of the first `changed` octets to each of the
-/// 255 other values.
+/// Tries each front of the octets, the empty one and the whole too, and each change of one octet to each of the 255
+/// other values.
 pub fn try_all<S: Subject>(
     rt: &HostRuntime,
     subject: &mut S,
     octets: &mut [u8],
-    changed: usize,
 ) -> io::Result<Tally> {
     let mut tally = Tally::NONE;
-    try_fronts(rt, subject, octets, &mut tally)?;
-    for at in 0..changed {
+    for length in 0..=octets.len() {
+        if let Some(front) = octets.get(..length) {
+            try_one(rt, subject, front, &mut tally)?;
+        }
+    }
+    for at in 0..octets.len() {
         try_values(rt, subject, octets, at, &mut tally)?;
     }
     Ok(tally)

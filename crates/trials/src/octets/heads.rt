@@ -1,13 +1,13 @@
 //! Requests over HTTP, through the service.
 use crate::desks::serve_octets;
-use crate::fields::{controlled, word};
+use crate::fields::word;
 use crate::octets::answers::is_answer;
 use crate::octets::changes::{Subject, try_all};
 use crate::tally::Tally;
 use cms::Signer;
 use desk::Desk;
 use service::Served;
-use std::alloc::{AllocError, Global};
+use std::alloc::Global;
 use std::io;
 use store::Book;
 
@@ -54,18 +54,6 @@ fn deposit<B: Book + Drop, G: Signer>(desk: &mut Desk<'_, B>, signer: &mut G) ->
     }
 }
 
-/// Tells how many were tried, how many of them weren't refused, and how many were wrong.
-fn tell(rt: &HostRuntime, name: &str, tally: Tally, done: u64) -> io::Result<()> {
-    print!(rt; "head {name}: {} tried, {done} not refused", tally.tried)?;
-    println!(rt; "; {} wrong", tally.wrong)
-}
-
-/// The octets of a text.
-fn octets_of(alloc: Global, text: &str) -> Result<Vec<u8>, AllocError> {
-    let text = controlled(alloc, text)?;
-    Vec::from_slice(alloc, text.as_bytes())
-}
-
 /// Tries octets at a desk: how many, and how many of them weren't refused.
 fn try_octets<B: Book + Drop, G: Signer>(
     rt: &HostRuntime,
@@ -80,8 +68,7 @@ fn try_octets<B: Book + Drop, G: Signer>(
         answer: Vec::new(rt.alloc()),
         done: 0,
     };
-    let length = octets.len();
-    let tally = try_all(rt, &mut asked, octets, length)?;
+    let tally = try_all(rt, &mut asked, octets)?;
     Ok((tally, asked.done))
 }
 
@@ -97,8 +84,10 @@ pub fn try_line<B: Book + Drop, G: Signer>(
     if !deposit(desk, signer) {
         anyhow::bail!("no deposit");
     }
-    let mut octets = octets_of(rt.alloc(), text)?;
+    let text = text.replace(rt.alloc(), "\\r\\n", "\r\n")?;
+    let mut octets = Vec::from_slice(rt.alloc(), text.as_bytes())?;
     let (tally, done) = try_octets(rt, desk, signer, &mut octets)?;
-    tell(rt, name, tally, done)?;
+    print!(rt; "head {name}: {} tried, {done} not refused", tally.tried)?;
+    println!(rt; "; {} wrong", tally.wrong)?;
     Ok(tally)
 }

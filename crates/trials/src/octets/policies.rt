@@ -2,7 +2,6 @@
 use crate::octets::changes::{Subject, try_all};
 use crate::tally::Tally;
 use policy::{EXAMPLE, Policy, PolicyFault};
-use std::io;
 use std::time::Instant;
 
 /// How many seconds one may take that isn't made once more.
@@ -57,16 +56,8 @@ impl Subject for Files<'_> {
     }
 }
 
-/// Tells how many were tried, how many of them were text and had a record, and how many were wrong.
-fn tell(rt: &HostRuntime, name: &str, tally: Tally, texts: u64, found: u64) -> io::Result<()> {
-    print!(rt;
-        "policy file {name}: {} tried, {texts} of them text",
-        tally.tried
-    )?;
-    println!(rt; ", {found} with a record; {} wrong", tally.wrong)
-}
-
-/// Tries the example of a policy file.
+/// Tries the example of a policy file. Tells how many were tried, how many of them were text and had a record, and how
+/// many were wrong.
 pub fn try_line(rt: &HostRuntime, name: &str) -> anyhow::Result<Tally> {
     let mut octets = Vec::from_slice(rt.alloc(), EXAMPLE.as_bytes())?;
     let mut files = Files {
@@ -74,8 +65,11 @@ pub fn try_line(rt: &HostRuntime, name: &str) -> anyhow::Result<Tally> {
         texts: 0,
         found: 0,
     };
-    let length = octets.len();
-    let tally = try_all(rt, &mut files, &mut octets, length)?;
-    tell(rt, name, tally, files.texts, files.found)?;
+    let tally = try_all(rt, &mut files, &mut octets)?;
+    print!(rt;
+        "policy file {name}: {} tried, {} of them text",
+        tally.tried, files.texts
+    )?;
+    println!(rt; ", {} with a record; {} wrong", files.found, tally.wrong)?;
     Ok(tally)
 }

@@ -74,15 +74,16 @@ fn is_stored<B: Book>(book: &mut B, serial: u64, query: &[u8], reply: &[u8]) -> 
     }
 }
 
-fn count(counts: &mut [u64], at: usize) {
-    if let Some(count) = counts.get_mut(at) {
-        *count = count.saturating_add(1);
+/// Whether a text is one of the rejections, which is counted.
+fn is_counted(counts: &mut [u64], text: &[u8]) -> bool {
+    let mut is_counted = false;
+    for (count, known) in counts.iter_mut().zip(REJECTIONS.iter()) {
+        if *known == text {
+            *count = count.saturating_add(1);
+            is_counted = true;
+        }
     }
-}
-
-/// Which of the rejections a text is.
-fn rule_of(text: &[u8]) -> Option<usize> {
-    REJECTIONS.iter().position(|known| *known == text)
+    is_counted
 }
 
 impl<B: Book + Drop, G: Signer> Subject for Asked<'_, '_, '_, B, G> {
@@ -92,62 +93,30 @@ impl<B: Book + Drop, G: Signer> Subject for Asked<'_, '_, '_, B, G> {
                 self.granted = self.granted.saturating_add(1);
                 serial == self.granted && is_stored(self.desk.store(), serial, octets, &bytes)
             }
-            Reply::Rejected(rejection) => match rule_of(rejection.as_slice()) {
-                Some(at) => {
-                    count(&mut self.rejected, at);
-                    true
-                }
-                None => false,
-            },
+            Reply::Rejected(rejection) => is_counted(&mut self.rejected, rejection.as_slice()),
         }
     }
 }
 
-/// What came of requests.
-#[derive(Clone, Copy)]
-struct Counts {
+/// Tells how many requests were tried, granted, rejected by each rule, and wrong.
+fn tell(
+    rt: &HostRuntime,
+    account: &str,
+    name: &str,
     tally: Tally,
     granted: u64,
-    rejected: [u64; RULES],
-}
-
-/// Tells how many requests were tried, granted, rejected by each rule, and wrong.
-fn tell(rt: &HostRuntime, account: &str, name: &str, counts: &Counts) -> io::Result<()> {
+    rejected: &[u64],
+) -> io::Result<()> {
     print!(rt;
-        "{account}'s request {name}: {} tried, {} granted",
-        counts.tally.tried, counts.granted
+        "{account}'s request {name}: {} tried, {granted} granted",
+        tally.tried
     )?;
-    for (at, count) in counts.rejected.iter().enumerate() {
+    for (at, count) in rejected.iter().enumerate() {
         if *count > 0 {
             print!(rt; ", {count} by rule {}", at + 1)?;
         }
     }
-    println!(rt; "; {} wrong", counts.tally.wrong)
-}
-
-/// Tries the octets of a request as an account's, at a desk without stamps.
-fn try_octets<B: Book + Drop, G: Signer>(
-    rt: &HostRuntime,
-    desk: &mut Desk<'_, B>,
-    signer: &mut G,
-    account: &str,
-    query: &mut [u8],
-) -> io::Result<Counts> {
-    let account = desk.policy().account_named(account);
-    let mut asked = Asked {
-        desk,
-        signer,
-        account,
-        granted: 0,
-        rejected: [0; RULES],
-    };
-    let length = query.len();
-    let tally = try_all(rt, &mut asked, query, length)?;
-    Ok(Counts {
-        tally,
-        granted: asked.granted,
-        rejected: asked.rejected,
-    })
+    println!(rt; "; {} wrong", tally.wrong)
 }
 
 /// Tries the request of a line, an account's name, the request's and its hexadecimal digits, at a desk without stamps.
@@ -161,7 +130,14 @@ pub fn try_line<B: Book + Drop, G: Signer>(
     let (account, rest) = word(line);
     let (name, digits) = word(rest);
     let mut query = octets(rt.alloc(), digits)?;
-    let counts = try_octets(rt, desk, signer, account, &mut query)?;
-    tell(rt, account, name, &counts)?;
-    Ok(counts.tally)
+    let mut asked = Asked {
+        account: desk.policy().account_named(account),
+        desk,
+        signer,
+        granted: 0,
+        rejected: [0; RULES],
+    };
+    let tally = try_all(rt, &mut asked, &mut query)?;
+    tell(rt, account, name, tally, asked.granted, &asked.rejected)?;
+    Ok(tally)
 }

@@ -1,9 +1,9 @@
 //! With what a scenario's desk is opened.
+use crate::transcript::{Names, Words, chosen_of};
 use cms::{Algorithm, Identity, KeyedHash};
 use counter_fakes::FailingSigner;
 use policy::{Account, EXAMPLE, Policy};
 use std::alloc::Global;
-use transcript::{Names, Words};
 
 /// The signer of a scenario.
 pub type Holder = FailingSigner<KeyedHash>;
@@ -66,77 +66,27 @@ fn identity_by(alloc: Global, names: &Names, line: Option<&str>) -> Option<Ident
     }
 }
 
-fn algorithm_of(alloc: Global, names: &Names) -> Option<Algorithm> {
-    Algorithm::from_bytes(alloc, names.octets("ALGORITHM")).ok()
-}
-
-/// The two policy files of a scenario.
-fn policies_of(alloc: Global, names: &Names, scenario: &str) -> Option<(Policy, Policy)> {
-    let Some(policy) = policy_by(alloc, names, rest_of(scenario, "policy")) else {
-        return None;
-    };
-    let Some(other) = policy_by(alloc, names, rest_of(scenario, "other")) else {
-        return None;
-    };
-    Some((policy, other))
-}
-
-/// The two identities of a scenario.
-fn identities_of(alloc: Global, names: &Names, scenario: &str) -> Option<(Identity, Identity)> {
-    let Some(identity) = identity_by(alloc, names, rest_of(scenario, "identity")) else {
-        return None;
-    };
-    let Some(next) = identity_by(alloc, names, rest_of(scenario, "next")) else {
-        return None;
-    };
-    Some((identity, next))
-}
-
-/// The setting with those policy files.
-fn setting_with(
-    alloc: Global,
-    names: &Names,
-    scenario: &str,
-    policies: (Policy, Policy),
-) -> Option<Setting> {
-    let Some(identities) = identities_of(alloc, names, scenario) else {
-        return None;
-    };
-    let Some(algorithm) = algorithm_of(alloc, names) else {
-        return None;
-    };
+/// The setting of a scenario.
+pub fn setting_of(alloc: Global, names: &Names, scenario: &str) -> Option<Setting> {
+    let policy = policy_by(alloc, names, rest_of(scenario, "policy"))?;
+    let other = policy_by(alloc, names, rest_of(scenario, "other"))?;
+    let identity = identity_by(alloc, names, rest_of(scenario, "identity"))?;
+    let next = identity_by(alloc, names, rest_of(scenario, "next"))?;
+    let algorithm = Algorithm::from_bytes(alloc, names.octets("ALGORITHM")).ok()?;
     Some(Setting {
-        policy: policies.0,
-        other: policies.1,
-        identity: identities.0,
-        next: identities.1,
+        policy,
+        other,
+        identity,
+        next,
         algorithm,
     })
 }
 
-/// The setting of a scenario.
-pub fn setting_of(alloc: Global, names: &Names, scenario: &str) -> Option<Setting> {
-    match policies_of(alloc, names, scenario) {
-        Some(policies) => setting_with(alloc, names, scenario, policies),
-        None => None,
-    }
-}
-
-/// The numbers of the line `signer NUMBER..`.
-fn chosen_of(alloc: Global, scenario: &str) -> Option<Vec<u64>> {
-    let mut chosen = Vec::new(alloc);
-    for word in rest_of(scenario, "signer").unwrap_or("").split(' ') {
-        if let Ok(number) = word.parse() {
-            chosen.push(number).ok()?;
-        }
-    }
-    Some(chosen)
-}
-
-/// A signer with a key that fails at the calls that a scenario chooses.
+/// A signer with a key that fails at the calls that the line `signer NUMBER..` chooses.
 pub fn signer_of(alloc: Global, scenario: &str) -> Option<Holder> {
     let signer = KeyedHash::new(alloc, b"k").ok()?;
-    Some(FailingSigner::new(signer, chosen_of(alloc, scenario)?))
+    let chosen = chosen_of(alloc, rest_of(scenario, "signer").unwrap_or(""), ' ').ok()?;
+    Some(FailingSigner::new(signer, chosen))
 }
 
 impl Setting {

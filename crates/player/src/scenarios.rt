@@ -1,6 +1,5 @@
 //! Plays scenarios: calls of the store, the desk, the extract and the service over a database in memory, a line for
 //! each, and prints what they tell.
-#![tactic(auto)]
 
 mod bench;
 mod commands;

@@ -1,5 +1,6 @@
 //! What is told. What can't be written is missing from the output, which is compared.
-use crate::names::Names;
+use crate::transcript::Names;
+use std::alloc::Global;
 use std::fmt::{Debug, Display};
 use std::io;
 
@@ -67,6 +68,10 @@ fn print_digits(rt: &HostRuntime, octets: &[u8]) {
 }
 
 impl Printer<'_> {
+    pub fn alloc(self) -> Global {
+        self.rt.alloc()
+    }
+
     /// Prints a line as it is.
     pub fn line(self, text: &str) {
         let _ = println!(self.rt; "{text}");
@@ -97,6 +102,14 @@ impl Printer<'_> {
         self.line("");
     }
 
+    /// The same, or why there are none.
+    pub fn octets_or_fault<F: Debug>(self, word: &str, octets: &Result<Vec<u8>, F>) {
+        match octets {
+            Ok(octets) => self.octets(word, octets),
+            Err(fault) => self.tell(fault),
+        }
+    }
+
     /// Prints a word, and octets by their name, or by their hexadecimal digits where they have none; of very many how
     /// many they are.
     pub fn digits(self, word: &str, octets: &[u8]) {
@@ -112,15 +125,13 @@ impl Printer<'_> {
     pub fn digits_or_none(self, word: &str, octets: Option<&[u8]>) {
         match octets {
             Some(octets) => self.digits(word, octets),
-            None => println_none(self.rt, word),
+            None => {
+                let _ = println!(self.rt; "  {word} None");
+            }
         }
     }
 
     fn name(self, name: &str) {
         let _ = print!(self.rt; "{name}");
     }
-}
-
-fn println_none(rt: &HostRuntime, word: &str) {
-    let _ = println!(rt; "  {word} None");
 }

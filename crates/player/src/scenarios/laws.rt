@@ -1,4 +1,5 @@
 //! The laws, each called once, and the numbers of the refusals.
+use crate::transcript::Printer;
 use desk::{
     Fault, accounts_are_isolated, accounts_disturb_little, commands_have_one_effect,
     deposits_are_shown_exactly, grants_are_of_their_plan, journeys_keep_their_promises,
@@ -11,7 +12,6 @@ use store::{
     book_stands_in_tables, equal_tables_tell_the_same, openings_find_what_was_left,
     rows_stand_exactly, serials_rise,
 };
-use transcript::Printer;
 use tsp::Rule;
 
 static FAULTS: [Fault; 10] = [
@@ -34,17 +34,13 @@ pub fn number(printer: Printer<'_>) {
     }
 }
 
-/// Calls the laws of the store.
-pub fn call_of_store() {
+/// Calls the laws of the store and of the desk.
+pub fn call() {
     equal_tables_tell_the_same();
     serials_rise();
     rows_stand_exactly();
     book_stands_in_tables::<MemStore>();
     openings_find_what_was_left::<Memory>();
-}
-
-/// Calls the laws of the desk.
-pub fn call_of_desk() {
     steps_leave_sound_histories();
     grants_are_of_their_plan();
     commands_have_one_effect();

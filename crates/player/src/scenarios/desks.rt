@@ -1,15 +1,15 @@
 //! Calls of the desk.
-use crate::lists::{tell_list, tell_rows};
+use crate::scenarios::lists::{tell_list, tell_rows};
+use crate::transcript::Printer;
 use book::Reader;
-use cms::{Algorithm, Identity, Signer};
-use desk::{Answer, Begun, Command, Desk, Fault, Pending, Reply};
+use cms::Signer;
+use desk::{Answer, Begun, Command, Desk, Pending, Reply};
 use policy::Account;
 use std::alloc::{AllocError, Global};
 use store::Book;
-use transcript::Printer;
 
 /// Tells of a reply.
-pub fn tell_reply(printer: Printer<'_>, reply: &Reply) {
+fn tell_reply(printer: Printer<'_>, reply: &Reply) {
     match reply {
         Reply::Granted { serial, bytes } => {
             printer.number("granted", *serial);
@@ -19,142 +19,36 @@ pub fn tell_reply(printer: Printer<'_>, reply: &Reply) {
     }
 }
 
-fn tell_shown(printer: Printer<'_>, shown: Result<Vec<u8>, Fault>) {
-    match shown {
-        Ok(octets) => printer.octets("shown", &octets),
-        Err(fault) => printer.tell(&fault),
-    }
-}
-
-fn answer<B: Book + Drop, G: Signer>(
-    desk: &mut Desk<'_, B>,
-    account: Option<&Account>,
-    reading: i64,
-    query: &[u8],
-    signer: &mut G,
-) -> Reply {
-    desk.answer(account, reading, query, signer)
-}
-
-fn stamp<B: Book + Drop, G: Signer>(
-    printer: Printer<'_>,
-    desk: &mut Desk<'_, B>,
-    account: Option<&Account>,
-    reading: i64,
-    query: &[u8],
-    signer: &mut G,
-) {
-    tell_reply(printer, &answer(desk, account, reading, query, signer));
-}
-
-fn deposit<B: Book + Drop, G: Signer>(
-    printer: Printer<'_>,
-    desk: &mut Desk<'_, B>,
-    account: &Account,
-    reading: i64,
-    reference: &str,
-    bytes: &[u8],
-    signer: &mut G,
-) {
-    printer.tell(&desk.deposit(account, reading, reference, bytes, signer));
-}
-
-fn show<B: Book + Drop>(
-    printer: Printer<'_>,
-    desk: &mut Desk<'_, B>,
-    account: &Account,
-    number: u64,
-) {
-    tell_shown(printer, desk.show(account, number));
-}
-
-fn token<B: Book + Drop>(
-    printer: Printer<'_>,
-    desk: &mut Desk<'_, B>,
-    account: &Account,
-    number: u64,
-) {
-    tell_shown(printer, desk.token_of(account, number));
-}
-
-fn list<B: Book + Drop>(printer: Printer<'_>, desk: &mut Desk<'_, B>, account: &Account) {
-    tell_list(printer, desk.list(account));
-}
-
-fn grant<B: Book + Drop>(
-    printer: Printer<'_>,
-    desk: &mut Desk<'_, B>,
-    account: &Account,
-    number: u64,
-    reader: Reader<'_>,
-) {
-    let outcome = match reader {
-        Reader::Account(name) => desk.grant(account, number, name),
-        Reader::Group(name) => desk.grant_group(account, number, name),
-    };
-    printer.tell(&outcome);
-}
-
-fn revoke<B: Book + Drop>(
-    printer: Printer<'_>,
-    desk: &mut Desk<'_, B>,
-    account: &Account,
-    number: u64,
-    reader: Reader<'_>,
-) {
-    let outcome = match reader {
-        Reader::Account(name) => desk.revoke(account, number, name),
-        Reader::Group(name) => desk.revoke_group(account, number, name),
-    };
-    printer.tell(&outcome);
-}
-
-fn succeed<'p, B: Book + Drop>(
-    printer: Printer<'_>,
-    desk: &mut Desk<'p, B>,
-    identity: &'p Identity,
-    algorithm: &'p Algorithm,
-) {
-    printer.tell(&desk.succeed(identity, algorithm));
-}
-
 /// Makes the call of a command that changes rights, or of a succession, and tells of it.
 fn call_about_rights<'p, B: Book + Drop>(
     printer: Printer<'_>,
     desk: &mut Desk<'p, B>,
     command: Command<'_, 'p>,
 ) {
-    match command {
+    let outcome = match command {
         Command::Grant {
             account,
             number,
             reader,
-        } => grant(printer, desk, account, number, reader),
+        } => match reader {
+            Reader::Account(name) => desk.grant(account, number, name),
+            Reader::Group(name) => desk.grant_group(account, number, name),
+        },
         Command::Revoke {
             account,
             number,
             reader,
-        } => revoke(printer, desk, account, number, reader),
+        } => match reader {
+            Reader::Account(name) => desk.revoke(account, number, name),
+            Reader::Group(name) => desk.revoke_group(account, number, name),
+        },
         Command::Succeed {
             identity,
             algorithm,
-        } => succeed(printer, desk, identity, algorithm),
-        _ => printer.line("  no such call"),
-    }
-}
-
-/// Makes the call of a command that shows deposits, and tells of it, or of another.
-fn call_about_deposits<'p, B: Book + Drop>(
-    printer: Printer<'_>,
-    desk: &mut Desk<'p, B>,
-    command: Command<'_, 'p>,
-) {
-    match command {
-        Command::Show { account, number } => show(printer, desk, account, number),
-        Command::Token { account, number } => token(printer, desk, account, number),
-        Command::List { account } => list(printer, desk, account),
-        other => call_about_rights(printer, desk, other),
-    }
+        } => desk.succeed(identity, algorithm),
+        _ => return printer.line("  no such call"),
+    };
+    printer.tell(&outcome);
 }
 
 /// Makes the call of a command, and tells of it. Calibrations and holds are calls of the store.
@@ -169,23 +63,22 @@ pub fn call<'p, B: Book + Drop, G: Signer>(
             account,
             reading,
             query,
-        } => stamp(printer, desk, account, reading, query, signer),
+        } => tell_reply(printer, &desk.answer(account, reading, query, signer)),
         Command::Deposit {
             account,
             reading,
             reference,
             bytes,
-        } => deposit(printer, desk, account, reading, reference, bytes, signer),
-        other => call_about_deposits(printer, desk, other),
+        } => printer.tell(&desk.deposit(account, reading, reference, bytes, signer)),
+        Command::Show { account, number } => {
+            printer.octets_or_fault("shown", &desk.show(account, number));
+        }
+        Command::Token { account, number } => {
+            printer.octets_or_fault("shown", &desk.token_of(account, number));
+        }
+        Command::List { account } => tell_list(printer, desk.list(account)),
+        other => call_about_rights(printer, desk, other),
     }
-}
-
-fn run<'p, B: Book + Drop, G: Signer>(
-    desk: &mut Desk<'p, B>,
-    commands: &[Command<'_, 'p>],
-    signer: &mut G,
-) -> Result<Vec<Answer>, Fault> {
-    desk.run(commands, signer)
 }
 
 fn tell_answer(printer: Printer<'_>, answer: &Answer) {
@@ -204,7 +97,7 @@ pub fn run_all<'p, B: Book + Drop, G: Signer>(
     commands: &[Command<'_, 'p>],
     signer: &mut G,
 ) {
-    match run(desk, commands, signer) {
+    match desk.run(commands, signer) {
         Ok(answers) => {
             for answer in &answers {
                 tell_answer(printer, answer);
@@ -227,17 +120,7 @@ fn shows<'a, 'p>(
     Ok(commands)
 }
 
-/// Tells how many answers there are, and which of them show a deposit.
-fn tell_shown_among(printer: Printer<'_>, answers: &[Answer]) {
-    printer.number("answers", answers.len() as u64);
-    for (number, answer) in answers.iter().enumerate() {
-        if matches!(answer, Answer::Shown(_)) {
-            printer.number("shown", number as u64);
-        }
-    }
-}
-
-/// Runs a list of so many such commands, and tells of the answers.
+/// Runs a list of so many such commands, and tells how many answers there are, and which of them show a deposit.
 pub fn tell_shows<B: Book + Drop, G: Signer>(
     printer: Printer<'_>,
     desk: &mut Desk<'_, B>,
@@ -245,10 +128,15 @@ pub fn tell_shows<B: Book + Drop, G: Signer>(
     count: u64,
     signer: &mut G,
 ) {
-    if let Ok(commands) = shows(printer.rt.alloc(), account, count)
-        && let Ok(answers) = run(desk, &commands, signer)
+    if let Ok(commands) = shows(printer.alloc(), account, count)
+        && let Ok(answers) = desk.run(&commands, signer)
     {
-        tell_shown_among(printer, &answers);
+        printer.number("answers", answers.len() as u64);
+        for (number, answer) in answers.iter().enumerate() {
+            if matches!(answer, Answer::Shown(_)) {
+                printer.number("shown", number as u64);
+            }
+        }
     }
 }
 
@@ -264,7 +152,7 @@ pub fn tell_fronts<B: Book + Drop, G: Signer>(
     let mut count: u64 = 0;
     for len in 1..query.len() {
         let front = query.get(..len).unwrap_or(&[]);
-        if is_reply(&answer(desk, account, 0, front, signer), reply) {
+        if is_reply(&desk.answer(account, 0, front, signer), reply) {
             count = count.saturating_add(1);
         }
     }
@@ -291,10 +179,6 @@ fn begun<'p, B: Book + Drop>(
     }
 }
 
-fn abandon<'p, B: Book + Drop>(desk: &mut Desk<'p, B>, pending: Pending<'p>) {
-    desk.abandon(pending);
-}
-
 fn signed<'p, B: Book + Drop, G: Signer>(
     desk: &mut Desk<'p, B>,
     pending: Pending<'p>,
@@ -303,7 +187,7 @@ fn signed<'p, B: Book + Drop, G: Signer>(
     match signer.sign(pending.text()) {
         Ok(signature) => desk.finish(pending, &signature).ok(),
         Err(_) => {
-            abandon(desk, pending);
+            desk.abandon(pending);
             None
         }
     }
@@ -349,7 +233,7 @@ pub fn leave<B: Book + Drop>(
 ) {
     match begun(desk, account, query) {
         Some(pending) => {
-            abandon(desk, pending);
+            desk.abandon(pending);
             printer.line("  left");
         }
         None => printer.line("  nothing"),

@@ -6,18 +6,10 @@ pub struct Words<'t> {
     pub rest: &'t str,
 }
 
-/// A text's front up to a space, and what stands behind it.
-fn parted(text: &str) -> (&str, &str) {
-    match text.split_once(' ') {
-        Some(parts) => parts,
-        None => (text, ""),
-    }
-}
-
 impl<'t> Words<'t> {
     /// The next word; an empty one where none is left.
     pub fn next(&mut self) -> &'t str {
-        let (word, rest) = parted(self.rest);
+        let (word, rest) = self.rest.split_once(' ').unwrap_or((self.rest, ""));
         self.rest = rest;
         word
     }

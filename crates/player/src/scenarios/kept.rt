@@ -36,28 +36,22 @@ pub trait Connected {
     fn connection(self) -> Connection<Place>;
 }
 
-fn create<S: Alter + Drop>(
+/// Makes a store over a connection, with these entries, or takes the one that it has.
+fn open<S: Alter + Drop>(
     alloc: Global,
     conn: Connection<S>,
-    entries: &[Entry<'_>],
+    entries: Option<&[Entry<'_>]>,
 ) -> Result<Store<S>, (StoreFault, Connection<S>)> {
     if !conn.is_autocommit() {
         return Err((StoreFault::Full, conn));
     }
+    let Some(entries) = entries else {
+        return Store::adopt(alloc, conn);
+    };
     if entries.is_empty() {
         return Store::create(alloc, conn);
     }
     Store::create_with(alloc, conn, entries)
-}
-
-fn adopt<S: Alter + Drop>(
-    alloc: Global,
-    conn: Connection<S>,
-) -> Result<Store<S>, (StoreFault, Connection<S>)> {
-    if !conn.is_autocommit() {
-        return Err((StoreFault::Full, conn));
-    }
-    Store::adopt(alloc, conn)
 }
 
 impl<S: Alter + Drop> Kept for FailingBook<Store<S>> {
@@ -74,11 +68,11 @@ impl<S: Alter + Drop> Kept for FailingBook<Store<S>> {
 
 impl Connected for FailingBook<Store<Place>> {
     fn make(alloc: Global, conn: Connection<Place>, entries: &[Entry<'_>]) -> Opened<Self> {
-        create(alloc, conn, entries).map(|store| FailingBook::new(store))
+        open(alloc, conn, Some(entries)).map(|store| FailingBook::new(store))
     }
 
     fn take(alloc: Global, conn: Connection<Place>) -> Opened<Self> {
-        adopt(alloc, conn).map(|store| FailingBook::new(store))
+        open(alloc, conn, None).map(|store| FailingBook::new(store))
     }
 
     fn connection(self) -> Connection<Place> {

@@ -1,8 +1,8 @@
 //! Lists of deposits, and what is told of them.
+use crate::transcript::Printer;
 use std::fmt::Debug;
 use std::io::{self, ErrorKind, Write};
 use store::Listed;
-use transcript::Printer;
 
 /// An output that can be flushed so many times, and takes all octets.
 #[derive(Drop)]

@@ -1,5 +1,5 @@
 //! Octets that have a name.
-use crate::words::Words;
+use crate::transcript::Words;
 use std::alloc::{AllocError, Global};
 
 /// A name with its octets.
@@ -16,25 +16,6 @@ pub struct Names {
     entries: Vec<Named>,
 }
 
-/// The octets of a name among those; none where it isn't one of them.
-fn octets_among<'n>(entries: &'n [Named], wanted: &str) -> &'n [u8] {
-    match entries.iter().find(|named| named.name.as_str() == wanted) {
-        Some(named) => &named.octets,
-        None => &[],
-    }
-}
-
-/// The first name of those octets.
-fn name_among<'n>(entries: &'n [Named], wanted: &[u8]) -> Option<&'n str> {
-    match entries
-        .iter()
-        .find(|named| named.octets.as_slice() == wanted)
-    {
-        Some(named) => Some(&named.name),
-        None => None,
-    }
-}
-
 impl Names {
     /// No names.
     pub fn new(alloc: Global) -> Names {
@@ -46,7 +27,14 @@ impl Names {
 
     /// The octets of a name; none where it has none.
     pub fn octets(&self, name: &str) -> &[u8] {
-        octets_among(&self.entries, name)
+        match self
+            .entries
+            .iter()
+            .find(|named| named.name.as_str() == name)
+        {
+            Some(named) => &named.octets,
+            None => &[],
+        }
     }
 
     /// The text of a name; an empty one where its octets are none.
@@ -56,7 +44,11 @@ impl Names {
 
     /// The first name of those octets.
     pub fn name_of(&self, octets: &[u8]) -> Option<&str> {
-        name_among(&self.entries, octets)
+        let found = self
+            .entries
+            .iter()
+            .find(|named| named.octets.as_slice() == octets)?;
+        Some(&found.name)
     }
 
     /// Gives octets a name.
@@ -178,10 +170,7 @@ fn append_text<'e>(
     mark: char,
     octets: &mut Vec<u8>,
 ) -> Result<&'e str, AllocError> {
-    let (text, behind) = match inside.split_once(mark) {
-        Some(parts) => parts,
-        None => (inside, ""),
-    };
+    let (text, behind) = inside.split_once(mark).unwrap_or((inside, ""));
     push_text(text, octets)?;
     Ok(behind.strip_prefix(' ').unwrap_or(behind))
 }

@@ -1,10 +1,10 @@
 //! The rows that a query shows.
-use crate::bench::Bench;
+use crate::scenarios::bench::Bench;
+use crate::transcript::Printer;
 use sha2::{Digest, Sha256};
 use sqlite::types::ValueRef;
 use sqlite::{Alter, Connection, Error, Row};
 use store::Book;
-use transcript::Printer;
 
 /// How many octets of a value are told one by one at most.
 const MOST: usize = 4_096;

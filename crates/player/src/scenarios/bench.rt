@@ -1,12 +1,12 @@
 //! On what a scenario is played.
-use crate::kept::Place;
-use crate::setting::{Holder, Setting, signer_of};
+use crate::scenarios::kept::Place;
+use crate::scenarios::setting::{Holder, Setting, signer_of};
+use crate::transcript::Printer;
 use desk::{Command, Desk};
 use sqlite::Connection;
 use std::alloc::Global;
 use store::Book;
 use tables::Base;
-use transcript::Printer;
 
 /// How many octets of requests and answers there is room for from the beginning.
 const ROOM: usize = 2_097_152;
@@ -23,15 +23,9 @@ pub struct Tools {
 
 /// What a scenario is played with.
 pub fn tools_of(alloc: Global, scenario: &str) -> Option<Tools> {
-    let Some(signer) = signer_of(alloc, scenario) else {
-        return None;
-    };
-    let Ok(request) = Vec::with_capacity(alloc, ROOM) else {
-        return None;
-    };
-    let Ok(room) = Vec::with_capacity(alloc, ROOM) else {
-        return None;
-    };
+    let signer = signer_of(alloc, scenario)?;
+    let request = Vec::with_capacity(alloc, ROOM).ok()?;
+    let room = Vec::with_capacity(alloc, ROOM).ok()?;
     Some(Tools {
         signer,
         request,

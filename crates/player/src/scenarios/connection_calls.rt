@@ -1,27 +1,12 @@
 //! Connections, and the stores that are made and taken over them.
-use crate::bench::Bench;
-use crate::entries::entries_of;
-use crate::kept::{Connected, Opened, Place};
-use crate::setting::Setting;
+use crate::scenarios::bench::Bench;
+use crate::scenarios::entries::entries_of;
+use crate::scenarios::kept::{Connected, Opened};
+use crate::transcript::Words;
 use book::Entry;
-use desk::{Desk, Fault, Settings};
+use desk::{Desk, Settings};
 use sqlite::{Alter, Connection, Error};
-use std::alloc::Global;
 use store::Book;
-use transcript::Words;
-
-fn desk_over<B: Book + Drop>(
-    alloc: Global,
-    setting: &Setting,
-    store: B,
-) -> Result<Desk<'_, B>, (Fault, B)> {
-    let settings = Settings {
-        policy: &setting.policy,
-        identity: &setting.identity,
-        algorithm: &setting.algorithm,
-    };
-    Desk::open(alloc, settings, store)
-}
 
 /// Connects to an empty database in memory.
 pub fn connect<B: Book + Drop>(bench: &mut Bench<'_, B>) {
@@ -33,7 +18,12 @@ pub fn connect<B: Book + Drop>(bench: &mut Bench<'_, B>) {
 
 /// Keeps a desk over a store, or the connection and why the desk was refused.
 fn keep_over<B: Book + Drop + Connected>(bench: &mut Bench<'_, B>, store: B) {
-    match desk_over(bench.alloc, bench.setting, store) {
+    let settings = Settings {
+        policy: &bench.setting.policy,
+        identity: &bench.setting.identity,
+        algorithm: &bench.setting.algorithm,
+    };
+    match Desk::open(bench.alloc, settings, store) {
         Ok(desk) => bench.desk = Some(desk),
         Err((fault, store)) => {
             bench.printer.tell(&fault);
@@ -62,9 +52,8 @@ fn make_with<B: Book + Drop + Connected>(bench: &mut Bench<'_, B>, entries: &[En
 }
 
 /// Makes a store over the connection, with the entries that the words name, if any.
-pub fn make<B: Book + Drop + Connected>(bench: &mut Bench<'_, B>, words: &mut Words<'_>) {
-    let mut rest = *words;
-    match entries_of(bench.alloc, bench.printer.names, &mut rest) {
+pub fn make<'p, B: Book + Drop + Connected>(bench: &mut Bench<'p, B>, words: &mut Words<'p>) {
+    match entries_of(bench.alloc, bench.printer.names, words) {
         Ok(entries) => make_with(bench, &entries),
         Err(fault) => bench.printer.tell(&fault),
     }
@@ -78,14 +67,10 @@ pub fn take<B: Book + Drop + Connected>(bench: &mut Bench<'_, B>) {
     }
 }
 
-fn connection_of<B: Book + Drop + Connected>(desk: Desk<'_, B>) -> Connection<Place> {
-    desk.into_store().connection()
-}
-
 /// Gives the store's connection back.
 pub fn part<B: Book + Drop + Connected>(bench: &mut Bench<'_, B>) {
     if let Some(desk) = bench.desk.take() {
-        bench.conn = Some(connection_of(desk));
+        bench.conn = Some(desk.into_store().connection());
     }
 }
 

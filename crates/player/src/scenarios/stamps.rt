@@ -1,8 +1,8 @@
 //! Stamps of a range, and the check of their rows.
+use crate::transcript::Printer;
 use audit::check_row;
 use book::IdentityRow;
-use store::{Book, Stamp, StampsBetween, StoreFault};
-use transcript::Printer;
+use store::{Book, Stamp, StampsBetween};
 
 /// Tells of a stamp.
 pub fn tell_stamp(printer: Printer<'_>, stamp: &Stamp) {
@@ -24,38 +24,24 @@ pub fn tell_stamp(printer: Printer<'_>, stamp: &Stamp) {
 }
 
 /// What is asked of the stamps of a range.
-#[derive(Clone, Copy)]
+#[derive(Drop)]
 pub enum AskedOfStamps<'a> {
     /// So many of them, by their serial numbers.
     Walk(u64),
     /// Whether the octets of so many say what their rows say, and what the rows of identities do.
-    Check(u64, &'a [IdentityRow]),
+    Check(u64, Vec<IdentityRow>),
     /// Whether the first one's row is said where one octet of a column is another.
     Flip(&'a str),
 }
 
-fn next<B: Book>(stamps: &mut StampsBetween<'_, B>) -> Result<Option<Stamp>, StoreFault> {
-    stamps.next()
-}
-
-/// Tells of the next stamp of a range by its serial number and whether it has its token: whether there may be more.
-fn is_told(printer: Printer<'_>, answer: Result<Option<Stamp>, StoreFault>) -> bool {
-    match answer {
-        Ok(Some(stamp)) => printer.tell(&(stamp.serial, stamp.token.is_some())),
-        Ok(None) => {
-            printer.line("  end");
-            return false;
-        }
-        Err(fault) => printer.tell(&fault),
-    }
-    true
-}
-
-/// Tells of the stamps that are left, up to their end or as many answers.
+/// Tells of the stamps that are left, by their serial numbers and whether they have their tokens, up to their end or as
+/// many answers.
 fn walk_on<B: Book>(printer: Printer<'_>, stamps: &mut StampsBetween<'_, B>, count: u64) {
     for _ in 0..count {
-        if !is_told(printer, next(stamps)) {
-            return;
+        match stamps.next() {
+            Ok(Some(stamp)) => printer.tell(&(stamp.serial, stamp.token.is_some())),
+            Ok(None) => return printer.line("  end"),
+            Err(fault) => printer.tell(&fault),
         }
     }
 }
@@ -68,7 +54,7 @@ fn check_all<B: Book>(
     count: u64,
 ) {
     for _ in 0..count {
-        match next(stamps) {
+        match stamps.next() {
             Ok(Some(stamp)) => printer.tell(&(stamp.serial, check_row(&stamp, identities))),
             _ => return,
         }
@@ -113,8 +99,7 @@ fn flip_all(printer: Printer<'_>, stamp: &mut Stamp, word: &str) {
 
 /// The same of the first stamp that is left.
 fn flip_next<B: Book>(printer: Printer<'_>, stamps: &mut StampsBetween<'_, B>, word: &str) {
-    if let Ok(Some(stamp)) = next(stamps) {
-        let mut stamp = stamp;
+    if let Ok(Some(mut stamp)) = stamps.next() {
         flip_all(printer, &mut stamp, word);
         printer.tell(&check_row(&stamp, &[]));
     }
@@ -128,7 +113,7 @@ pub fn tell_stamps<B: Book>(
 ) {
     match asked {
         AskedOfStamps::Walk(count) => walk_on(printer, stamps, count),
-        AskedOfStamps::Check(count, identities) => check_all(printer, stamps, identities, count),
+        AskedOfStamps::Check(count, identities) => check_all(printer, stamps, &identities, count),
         AskedOfStamps::Flip(column) => flip_next(printer, stamps, column),
     }
 }
