@@ -13,7 +13,7 @@ import textwrap
 ROOT = os.path.dirname(os.path.dirname(os.path.dirname(os.path.realpath(__file__))))
 CRATES = os.path.join(ROOT, "crates")
 PAGE = os.path.join(ROOT, "docs", "clauses.md")
-USE = re.compile(r"^ *(?:pub )?(?:ghost )?use Rattle\.(\w+)\.specs\.(\w+)(?:\.\{([^}]*)\}| as (\w+)).*$", re.M)
+USE = re.compile(r"^ *(?:pub )?(?:ghost )?use Rattle\.([\w.]+?)(?:\.\{([^}]*)\}| as (\w+)).*$", re.M)
 DEFINED = re.compile(
     r"^(?:(?: *(?:abbrev |unfoldable )?(?:mutual )?pub (?:record |data )?| *(?:abbrev|unfoldable|record|data) ))(\w+) "
     r"|^(\w+) :",
@@ -55,26 +55,27 @@ class File:
                 self.texts[word] += line + "\n"
 
 
+def imports(text):
+    """Of what a text uses of definitions: the file, the word, or none where all of the file has a name, and the name."""
+    for module, words, name in USE.findall(text):
+        for word in words.split(",") if words else ("",):
+            own, _, other = word.strip().partition(" as ")
+            below, _, last = own.rpartition(".")
+            path = "/".join(filter(None, (module + "." + below).split("."))) + ".antt"
+            if re.match(r"\w+/specs/", path) and os.path.exists(os.path.join(CRATES, path)):
+                yield path, last or None, name or other or last
+
+
 def uses_of(text):
     """By each name that a text may have for it: a file and a word of it, or none where all of a file has a name."""
-    found = {}
-    for crate, file, words, name in USE.findall(text):
-        path = f"{crate}/specs/{file}.antt"
-        if not os.path.exists(os.path.join(CRATES, path)):
-            continue
-        if name:
-            found[name] = path, None
-        for word in words.split(",") if words else ():
-            own, _, other = word.strip().partition(" as ")
-            found[other or own] = path, own
-    return found
+    return {name: (path, word) for path, word, name in imports(text)}
 
 
 class Definitions:
     """All files of definitions, and what words lead to."""
 
     def __init__(self):
-        paths = glob.glob("*/specs/*.antt", root_dir=CRATES)
+        paths = glob.glob("*/specs/**/*.antt", root_dir=CRATES, recursive=True)
         self.files = {path: File(os.path.join(CRATES, path)) for path in paths}
 
     def named_in(self, text, uses, own=None):

@@ -11,7 +11,7 @@ ESCAPES = {"n": "\n", "r": "\r", "t": "\t", "0": "\0"}
 
 
 def parts(expression, names):
-    """The octets of each part of an expression of crates/transcript."""
+    """The octets of each part of an expression of the player's."""
     for one, other, count, digits, name, plain in PART.findall(expression):
         if name:
             yield names.get(name, b"")
