@@ -1,15 +1,12 @@
 -- Whether a row's octets say what it says, by what they are read as.
 use Rattle.std.proofs.Common.{◌≡◌, ℕ, ◌≤◌, Bool, true, false, List, [], ◌∷◌, ◌++◌, length, map, refl, sym, ap, ◌∙◌}
 use Rattle.std.proofs.Common.{Option, Some, None, option_map, find, nat_lt, subst}
-use Rattle.std.specs.Prelude.{reverse, ◌↔◌, IsTrue}
 use Rattle.std.proofs.lemmas.List.{map-append, reverse-append}
-use Rattle.der.specs.DataValue.{value_in}
-use Rattle.der.specs.Node.{Node, encoding, IsLawful}
-use Rattle.book.specs.Identities.{identity_before}
-use Rattle.book.specs.Rows.{StampRow, InstalledRow}
+use Rattle.std.specs.Prelude.{reverse, ◌↔◌, IsTrue}
+use Rattle.der.specs.{DataValue.value_in, Node.Node, Node.encoding, Node.IsLawful}
+use Rattle.book.specs.{Identities.identity_before, Rows.StampRow, Rows.InstalledRow}
 use Rattle.cms.specs.Certificate.{IsSubject}
-use Rattle.tsp.specs.Request.{RequestValue, Spells}
-use Rattle.tsp.specs.Tst.{TstValue, SpellsTst}
+use Rattle.tsp.specs.{Request.RequestValue, Request.Spells, Tst.TstValue, Tst.SpellsTst}
 use Rattle.audit.specs.Consistent.{Agree, IsConsistent}
 
 -- the octets are read as no other TSTInfo and as no other request

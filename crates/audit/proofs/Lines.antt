@@ -1,23 +1,16 @@
 -- An extract, written line after line.
 use Rattle.std.proofs.Common.{◌≡◌, ◌≢◌, ℕ, ◌+◌, ◌<◌, ◌≤◌, List, [], ◌∷◌, ◌++◌, length, take, Option, None, Some, Vec}
 use Rattle.std.proofs.Common.{Result, Ok, Err, refl, sym, ap, ◌∙◌, subst, arith, append_assoc, append-nil}
-use Rattle.std.proofs.KnownBytes.{Appends-nil, Appends-trans}
 use Rattle.std.proofs.Math.Seq.{take-append_seam, take-append-add, take-length}
 use Rattle.std.proofs.lemmas.List.{length-append, length-take-le, take-append-le}
-use Rattle.std.specs.Io.KnownBytes.{Appends}
-use Rattle.std.specs.declared.alloc.Global.{Global}
-use Rattle.std.proofs.lemmas.Grind.{flat_map-append}
+use Rattle.std.proofs.{KnownBytes.Appends-nil, KnownBytes.Appends-trans, lemmas.Grind.flat_map-append}
+use Rattle.std.specs.{Io.KnownBytes.Appends, declared.alloc.Global.Global}
 use Rattle.csv.specs.Writing.{default_writer, row_body}
-use Rattle.book.specs.declared.standing.Standing.{Ghosts}
-use Rattle.book.specs.Rows.{StampRow}
 use Rattle.book.specs.History.{History, stamps_between}
-use Rattle.book.specs.Stands.{Stands, OnlyLooks}
+use Rattle.book.specs.{declared.standing.Standing.Ghosts, Rows.StampRow, Stands.Stands, Stands.OnlyLooks}
 use Rattle.audit.specs.Extract.{columns, extract_text, fields, header_text, lines_text, stamp_text, stamps_text}
-use Rattle.audit.specs.Failures.{IsAsked}
-use Rattle.audit.specs.auxiliary.Steps.{IsNextLine}
-use Rattle.audit.specs.Writes.{Writes, WritesLine}
-use Rattle.audit.specs.declared.fault.ExtractFault.{ExtractFault}
-use Rattle.audit.specs.declared.fault.ExtractFault.TheVariants.{Write}
+use Rattle.audit.specs.{Failures.IsAsked, auxiliary.Steps.IsNextLine, Writes.Writes, Writes.WritesLine}
+use Rattle.audit.specs.{declared.fault.ExtractFault.ExtractFault, declared.fault.ExtractFault.TheVariants.Write}
 
 pub looks_not : {B : Type 0} (g : Ghosts B) (s : B) → OnlyLooks g s s
 looks_not g s = record { honest = λ h. h; stands = λ b x. x; leaves = λ h left r. r }

@@ -1,11 +1,9 @@
 -- The definitions, computed on rows.
 use Rattle.std.proofs.Common.{◌≡◌, List, ℕ, [], ◌∷◌, ◌++◌, refl}
-use Rattle.std.specs.Fmt.{digits}
-use Rattle.std.specs.Prelude.{codes}
+use Rattle.std.specs.{Fmt.digits, Prelude.codes}
 use Rattle.csv.specs.Writing.{escaped, fields_text, is_blank}
 use Rattle.der.specs.ObjectIdentifier.{decimal, oid_of, subidentifier_octets, subidentifiers_of}
-use Rattle.gentime.specs.Calendar.{civil_date}
-use Rattle.gentime.specs.GenTime.{spelling, text_of, time_of}
+use Rattle.gentime.specs.{Calendar.civil_date, GenTime.spelling, GenTime.text_of, GenTime.time_of}
 use Rattle.hex.specs.Hex.{encode_with}
 use Rattle.book.specs.History.{Reserved, ReservationValue}
 use Rattle.audit.specs.Extract.{extract_text, header_text, identifier_text, moment_text, stamp_text}

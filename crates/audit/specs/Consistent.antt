@@ -1,12 +1,9 @@
 -- Whether a stamp's octets say what its row says.
 use Rattle.std.specs.Prelude.{◌≡◌, ◌≤◌, List, length, Option, Some, None}
-use Rattle.der.specs.Node.{Node}
-use Rattle.der.specs.ObjectIdentifier.{oid_content}
-use Rattle.book.specs.Identities.{identity_before}
-use Rattle.book.specs.Rows.{StampRow, InstalledRow}
+use Rattle.der.specs.{Node.Node, ObjectIdentifier.oid_content}
+use Rattle.book.specs.{Identities.identity_before, Rows.StampRow, Rows.InstalledRow}
 use Rattle.cms.specs.Certificate.{IsSubject}
-use Rattle.tsp.specs.Request.{RequestValue, Spells}
-use Rattle.tsp.specs.Tst.{TstValue, SpellsTst}
+use Rattle.tsp.specs.{Request.RequestValue, Request.Spells, Tst.TstValue, Tst.SpellsTst}
 
 -- a name is there only where an identity was in force, and is the subject of its certificate (RFC 3161 2.4.2)
 abbrev pub IsOwnName : Option InstalledRow → Option Node → Type 0

@@ -1,15 +1,13 @@
 -- The extract of a history: comma-separated values (RFC 4180, but that a line ends in LF), a line of the columns' names
 -- and a record for each stamp of a range of serial numbers.
 use Rattle.std.specs.Prelude.{ℕ, nat_le, if◌then◌else◌, List, [], ◌∷◌, ◌++◌, Option, Some, None, codes}
-use Rattle.std.specs.Fmt.{decimal}
-use Rattle.std.specs.List.{flat_map}
+use Rattle.std.specs.{Fmt.decimal, List.flat_map}
 use Rattle.csv.specs.Writing.{default_writer, row_text}
 use Rattle.der.specs.ObjectIdentifier.{oid_of, oid_text}
 use Rattle.gentime.specs.GenTime.{last_moment, text_of}
 use Rattle.hex.specs.Hex.{encode_lower}
 use Rattle.sha2.specs.Sha256.{sha256}
-use Rattle.book.specs.Rows.{StampRow}
-use Rattle.book.specs.History.{History, stamps_between}
+use Rattle.book.specs.{Rows.StampRow, History.History, History.stamps_between}
 
 abbrev pub columns : List (List ℕ)
 columns =

@@ -1,7 +1,6 @@
 -- The refusals: their numbers, what becomes of a store's, and its count of those that it gave for another
 -- cause than memory.
-use Rattle.std.specs.Prelude.{ℕ}
-use Rattle.std.specs.Hash.DefaultHasher.{wrapping_add}
+use Rattle.std.specs.{Prelude.ℕ, Hash.DefaultHasher.wrapping_add}
 use Rattle.book.specs.declared.fault.StoreFault.{StoreFault}
 use Rattle.book.specs.declared.fault.StoreFault.TheVariants as store
 use Rattle.audit.specs.declared.fault.ExtractFault.{ExtractFault}

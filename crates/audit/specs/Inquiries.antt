@@ -1,8 +1,7 @@
 -- What an inquiry stands for.
 use Rattle.policy.specs.View.{account_view, policy_view}
-use Rattle.audit.specs.Auditor.{IsAllowed, ComesWhere}
-use Rattle.audit.specs.declared.extracts.Inquiry.{Inquiry}
 use Rattle.audit.specs.declared.fault.ExtractFault.{ExtractFault}
+use Rattle.audit.specs.{Auditor.IsAllowed, Auditor.ComesWhere, declared.extracts.Inquiry.Inquiry}
 
 -- an auditor asks, and for a range
 abbrev pub Allows : Inquiry → Type 0

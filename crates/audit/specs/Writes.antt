@@ -1,13 +1,9 @@
 -- What was written of an extract.
 use Rattle.std.specs.Prelude.{◌≡◌, ℕ, ◌+◌, ◌<◌, List, length, take, Option, Result, Ok, Err, OnOk}
 use Rattle.std.specs.Io.KnownBytes.{Appends}
-use Rattle.book.specs.declared.standing.Standing.{Ghosts}
-use Rattle.book.specs.Rows.{StampRow}
-use Rattle.book.specs.History.{History}
-use Rattle.book.specs.Stands.{Stands}
-use Rattle.audit.specs.Extract.{extract_text, lines_text}
-use Rattle.audit.specs.declared.fault.ExtractFault.{ExtractFault}
+use Rattle.book.specs.{declared.standing.Standing.Ghosts, Rows.StampRow, History.History, Stands.Stands}
 use Rattle.audit.specs.declared.fault.ExtractFault.TheVariants.{Write}
+use Rattle.audit.specs.{Extract.extract_text, Extract.lines_text, declared.fault.ExtractFault.ExtractFault}
 
 -- So many octets were written: a beginning of the columns' names and the lines of some stamps, whatever the store is,
 -- and all of these where there was no refusal. Of each history that the store stood for they are a beginning of its

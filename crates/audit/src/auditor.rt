@@ -1,8 +1,7 @@
 //! Who may have an extract.
 ghost use Rattle.std.specs.Prelude.{◌≡◌, ◌↔◌, ◌⊎◌, IsTrue, IfErr, MatchResult};
 ghost use Rattle.policy.specs.View.{account_view, policy_view};
-ghost use Rattle.audit.specs.Auditor.{IsAuditor};
-ghost use Rattle.audit.specs.Inquiries.{Allows, ComesFor};
+ghost use Rattle.audit.specs.{Auditor.IsAuditor, Inquiries.Allows, Inquiries.ComesFor};
 
 use crate::extracts::Inquiry;
 use crate::fault::ExtractFault;

@@ -1,13 +1,10 @@
 //! Whether a stamp's octets say what its row says.
 ghost use Rattle.std.specs.Prelude.{◌≡◌, ◌↔◌, IsTrue, MatchResult, Some, option_map, map};
-ghost use Rattle.der.specs.DataValueView.{value_view};
-ghost use Rattle.der.specs.ObjectIdentifier.{oid_content};
-ghost use Rattle.book.specs.Identities.{identity_before};
-ghost use Rattle.book.specs.Values.{identity_view, stamp_view, stamped_view};
+ghost use Rattle.der.specs.{DataValueView.value_view, ObjectIdentifier.oid_content};
+ghost use Rattle.book.specs.{Identities.identity_before, Values.identity_view, Values.stamp_view, Values.stamped_view};
 ghost use Rattle.cms.specs.Certificate.{IsSubject};
 ghost use Rattle.tsp.specs.View.{imprint_view, request_view, tst_view};
-ghost use Rattle.audit.specs.Consistent.{Agree, IsConsistent, IsOwnName};
-ghost use Rattle.audit.specs.Intact.{IsIntact};
+ghost use Rattle.audit.specs.{Consistent.Agree, Consistent.IsConsistent, Consistent.IsOwnName, Intact.IsIntact};
 
 use crate::fault::ExtractFault;
 use book::{IdentityRow, Stamp, StampedDeposit};

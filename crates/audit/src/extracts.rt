@@ -1,17 +1,12 @@
 //! The stamps of a range of serial numbers, for an auditor.
-ghost use Rattle.std.specs.Io.KnownBytes.{Keeps};
 ghost use Rattle.std.specs.Prelude.{◌≡◌, ◌≢◌, ◌<◌, ◌≤◌, ◌^◌, ◌-◌, ℕ, length, Err, IfOk, IfErr, IfSome, MatchResult};
-ghost use Rattle.std.specs.Prelude.{OnOk};
+ghost use Rattle.std.specs.{Io.KnownBytes.Keeps, Prelude.OnOk};
 ghost use Rattle.policy.specs.View.{account_view, policy_view};
-ghost use Rattle.book.specs.History.{History, stamps_between};
-ghost use Rattle.book.specs.Stands.{Stands, OnlyLooks};
+ghost use Rattle.book.specs.{History.History, History.stamps_between, Stands.Stands, Stands.OnlyLooks};
 ghost use Rattle.audit.specs.Auditor.{IsAllowed, ComesWhere, IfUnasked, IsMet};
-ghost use Rattle.audit.specs.Inquiries.{Allows, ComesFor};
-ghost use Rattle.audit.specs.Extract.{extract_text};
-ghost use Rattle.audit.specs.Failures.{IsAsked, StopsFor};
-ghost use Rattle.audit.specs.Fault.{count_after};
 ghost use Rattle.audit.specs.auxiliary.Steps.{IsLine, IsNextLine};
-ghost use Rattle.audit.specs.Writes.{Writes};
+ghost use Rattle.audit.specs.{Inquiries.Allows, Inquiries.ComesFor, Extract.extract_text, Failures.IsAsked};
+ghost use Rattle.audit.specs.{Failures.StopsFor, Fault.count_after, Writes.Writes};
 
 use crate::auditor::allow;
 use crate::fault::ExtractFault;

@@ -1,6 +1,5 @@
 ghost use Rattle.std.specs.Prelude.{◌≡◌};
-ghost use Rattle.audit.specs.Fault.{fault_of};
-ghost use Rattle.audit.specs.declared.fault.ExtractFault.TheVariants.{Memory};
+ghost use Rattle.audit.specs.{Fault.fault_of, declared.fault.ExtractFault.TheVariants.Memory};
 
 use book::StoreFault;
 use std::alloc::{AllocError, AllocFailed};

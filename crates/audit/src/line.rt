@@ -4,8 +4,7 @@ ghost use Rattle.csv.specs.Writing.{default_writer, row_text};
 ghost use Rattle.gentime.specs.GenTime.{last_moment};
 ghost use Rattle.book.specs.Values.{stamp_view};
 ghost use Rattle.audit.specs.Extract.{fields, header_text, identifier_text, moment_text, stamp_text, state_text};
-ghost use Rattle.audit.specs.Extract.{token_text};
-ghost use Rattle.audit.specs.auxiliary.Texts.{AreTexts};
+ghost use Rattle.audit.specs.{Extract.token_text, auxiliary.Texts.AreTexts};
 
 use crate::fault::ExtractFault;
 use book::Stamp;

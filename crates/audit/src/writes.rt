@@ -1,8 +1,7 @@
 //! Writing, by a loop of our own, so that it is known how much a failed write left.
 ghost use Rattle.std.specs.Prelude.{◌≡◌, ◌≤◌, ◌<◌, ◌+◌, length, take, IfErr, OnOk};
 ghost use Rattle.std.specs.Io.KnownBytes.{Appends};
-ghost use Rattle.audit.specs.Failures.{HasFailed, StopsFor};
-ghost use Rattle.audit.specs.Writes.{WritesLine};
+ghost use Rattle.audit.specs.{Failures.HasFailed, Failures.StopsFor, Writes.WritesLine};
 
 use crate::fault::ExtractFault;
 use crate::output::Output;

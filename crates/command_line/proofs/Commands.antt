@@ -6,8 +6,7 @@ use Rattle.clap.specs.Words.{AddsSubcommand, App, Text, app_of, new_app, with_ru
 use Rattle.clap.specs.declared.builder.command.Command.{Command}
 use Rattle.command_line.specs.Options.{with_rules, with_subcommands}
 use Rattle.command_line.specs.auxiliary.Table.{app_in, rule_in}
-use Rattle.command_line.specs.declared.options.OptionRow.{OptionRow}
-use Rattle.command_line.specs.declared.table.SubcommandRow.{SubcommandRow}
+use Rattle.command_line.specs.{declared.options.OptionRow.OptionRow, declared.table.SubcommandRow.SubcommandRow}
 
 -- the values of one row more
 map-more : {X Y : Type 0} (f : X → Y) (xs : List X) (i : ℕ) (d : X) → i < length xs

@@ -1,14 +1,12 @@
 -- What becomes of an error of `clap`.
 use Rattle.std.proofs.Common.{◌≡◌, ◌⊎◌, ◌∙◌, List, inl, inr, sym, subst}
 use Rattle.clap.specs.Words.{HasKind, IsAmong, Text, fault_of, kind_of}
-use Rattle.clap.specs.declared.error.Error.{Error}
-use Rattle.clap.specs.declared.error.kind.ErrorKind.{ErrorKind}
 use Rattle.clap.specs.declared.error.kind.ErrorKind.TheVariants.{ArgumentConflict, DisplayHelp, DisplayVersion}
 use Rattle.clap.specs.declared.error.kind.ErrorKind.TheVariants.{MissingRequiredArgument, OutOfMemory}
-use Rattle.command_line.specs.Options.{counter_command}
+use Rattle.clap.specs.{declared.error.Error.Error, declared.error.kind.ErrorKind.ErrorKind}
 use Rattle.command_line.specs.Words.{AskNothing, AsksHelp, IsOwnKind, IsRefusal, IsShown, MixSigners}
-use Rattle.command_line.specs.declared.refusal.WordsRefusal.{WordsRefusal}
 use Rattle.command_line.specs.declared.refusal.WordsRefusal.TheVariants.{Help, Mistake, Memory}
+use Rattle.command_line.specs.{Options.counter_command, declared.refusal.WordsRefusal.WordsRefusal}
 
 asks_help : (texts : List Text) (kind : ErrorKind) → IsAmong kind (fault_of counter_command texts)
     → (kind ≡ DisplayHelp) ⊎ (kind ≡ DisplayVersion) → AsksHelp texts

@@ -2,36 +2,25 @@
 -- finds in them.
 use Rattle.std.specs.Prelude.{◌≡◌, ◌≢◌, ◌⊎◌, ◌&&◌, ◌||◌, ⊤, ℕ, Bool, true, false, not, List, [], Option, Some, None}
 use Rattle.std.specs.Prelude.{codes, is_some, option_map, map, String, string_bytes}
-use Rattle.std.specs.declared.alloc.Global.{Global}
-use Rattle.std.specs.Option.{option_map_or}
-use Rattle.std.specs.Str.{bytes_eq}
 use Rattle.std.specs.Str.Parse.{IsNumeral, digits_value, without_leading_plus}
+use Rattle.std.specs.{declared.alloc.Global.Global, Option.option_map_or, Str.bytes_eq}
 use Rattle.clap.specs.Words.{IsAmong, Row, Text, fault_of, first_of, one_of, subcommand_of}
 use Rattle.clap.specs.declared.error.kind.ErrorKind.{ErrorKind}
 use Rattle.clap.specs.declared.error.kind.ErrorKind.TheVariants.{ArgumentConflict, DisplayHelp, DisplayVersion}
 use Rattle.clap.specs.declared.error.kind.ErrorKind.TheVariants.{MissingRequiredArgument, OutOfMemory}
-use Rattle.command_line.specs.Options.{counter_command}
-use Rattle.command_line.specs.declared.refusal.WordsRefusal.{WordsRefusal}
 use Rattle.command_line.specs.declared.refusal.WordsRefusal.TheVariants.{Help, Mistake, Memory}
-use Rattle.command_line.specs.declared.words.AnswerWords.{AnswerWords}
-use Rattle.command_line.specs.declared.words.AuditWords.{AuditWords}
-use Rattle.command_line.specs.declared.words.CalibrateWords.{CalibrateWords}
-use Rattle.command_line.specs.declared.words.CheckWords.{CheckWords}
-use Rattle.command_line.specs.declared.words.ContinueWords.{ContinueWords}
-use Rattle.command_line.specs.declared.words.DeskWords.{DeskWords}
-use Rattle.command_line.specs.declared.words.ExchangeWords.{ExchangeWords}
-use Rattle.command_line.specs.declared.words.ExplainWords.{ExplainWords}
-use Rattle.command_line.specs.declared.words.FloorWords.{FloorWords}
-use Rattle.command_line.specs.declared.words.HoldWords.{HoldWords}
-use Rattle.command_line.specs.declared.words.InitWords.{InitWords}
-use Rattle.command_line.specs.declared.words.MigrateWords.{MigrateWords}
-use Rattle.command_line.specs.declared.words.ServeWords.{ServeWords}
-use Rattle.command_line.specs.declared.words.SignerWords.{SignerWords}
 use Rattle.command_line.specs.declared.words.SignerWords.TheVariants.{Key, Session}
-use Rattle.command_line.specs.declared.words.TstWords.{TstWords}
-use Rattle.command_line.specs.declared.words.Word.{Word}
 use Rattle.command_line.specs.declared.words.Word.TheVariants.{Tst, Check, Init, Migrate, Continue, Calibrate, Hold}
 use Rattle.command_line.specs.declared.words.Word.TheVariants.{Answer, Exchange, Serve, Audit, Explain}
+use Rattle.command_line.specs.{Options.counter_command, declared.refusal.WordsRefusal.WordsRefusal}
+use Rattle.command_line.specs.{declared.words.AnswerWords.AnswerWords, declared.words.AuditWords.AuditWords}
+use Rattle.command_line.specs.{declared.words.CalibrateWords.CalibrateWords, declared.words.CheckWords.CheckWords}
+use Rattle.command_line.specs.{declared.words.ContinueWords.ContinueWords, declared.words.DeskWords.DeskWords}
+use Rattle.command_line.specs.{declared.words.ExchangeWords.ExchangeWords, declared.words.ExplainWords.ExplainWords}
+use Rattle.command_line.specs.{declared.words.FloorWords.FloorWords, declared.words.HoldWords.HoldWords}
+use Rattle.command_line.specs.{declared.words.InitWords.InitWords, declared.words.MigrateWords.MigrateWords}
+use Rattle.command_line.specs.{declared.words.ServeWords.ServeWords, declared.words.SignerWords.SignerWords}
+use Rattle.command_line.specs.{declared.words.TstWords.TstWords, declared.words.Word.Word}
 
 -- the octets of each word
 abbrev pub texts_of : List (String Global) → List Text

@@ -1,8 +1,7 @@
 //! An option of the command line, for `clap`.
 ghost use Rattle.std.specs.Prelude.{◌≡◌, false, pos};
 ghost use Rattle.clap.specs.Words.{rule_of};
-ghost use Rattle.command_line.specs.Options.{number_between};
-ghost use Rattle.command_line.specs.auxiliary.Table.{narrowed, rule_in};
+ghost use Rattle.command_line.specs.{Options.number_between, auxiliary.Table.narrowed, auxiliary.Table.rule_in};
 
 use clap::builder::ValueParser;
 use clap::{Arg, ArgAction, value_parser};

@@ -4,10 +4,9 @@ ghost use Rattle.std.specs.Prelude.{is_some, option_map, true};
 ghost use Rattle.clap.specs.Words.{Row, Text, FailsBy, HasKind, fault_of, first_of, found_of, kind_of, rows_of};
 ghost use Rattle.clap.specs.Words.{subcommand_of, subcommand_rows_of};
 ghost use Rattle.clap.specs.declared.error.kind.ErrorKind.TheVariants.{OutOfMemory};
-ghost use Rattle.command_line.specs.Options.{counter_command};
 ghost use Rattle.command_line.specs.Words.{AskNothing, Asks, IsAsked, IsOwnKind, IsRefusal, IsShown, IsUnasked};
 ghost use Rattle.command_line.specs.Words.{MixSigners, StatesDesk, StatesFlag, StatesFloor, StatesNumber};
-ghost use Rattle.command_line.specs.Words.{needs_signer, texts_of};
+ghost use Rattle.command_line.specs.{Options.counter_command, Words.needs_signer, Words.texts_of};
 
 use crate::command::command;
 use crate::options::Numbers;

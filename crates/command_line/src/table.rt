@@ -1,7 +1,6 @@
 //! The subcommands of the program, with their options.
 ghost use Rattle.std.specs.Prelude.{◌≡◌, drop, map, take};
-ghost use Rattle.command_line.specs.Options.{subcommands};
-ghost use Rattle.command_line.specs.auxiliary.Table.{app_in};
+ghost use Rattle.command_line.specs.{Options.subcommands, auxiliary.Table.app_in};
 
 use crate::options::{Numbers, OptionRow, Value};
 

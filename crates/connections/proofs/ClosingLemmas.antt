@@ -3,7 +3,7 @@ use Rattle.std.proofs.Common.{ℕ, ◌+◌, ◌≤◌, List, ◌++◌, [], lengt
 use Rattle.std.proofs.KnownBytes.{Consumes-kept, Consumes-nil, Consumes-trans}
 use Rattle.std.proofs.lemmas.List.{length-append, length-take-le}
 use Rattle.std.specs.Io.KnownBytes.{Consumes, Keeps}
-use Rattle.connections.specs.Closing.{IsCounted}
+use Rattle.connections.specs.ClosingConnection.{IsCounted}
 
 pub counted_none : (known : Option (List ℕ)) (n : ℕ) → IsCounted known known n n
 counted_none known n = record { dropped = []; consumed = Consumes-nil known; counted = omega arith }

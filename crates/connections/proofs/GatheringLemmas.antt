@@ -3,11 +3,9 @@ use Rattle.std.proofs.Common.{◌≡◌, ◌∙◌, ◌⊎◌, ℕ, ◌+◌, ◌
 use Rattle.std.proofs.Common.{Result, Ok, Err, arith, refl, sym, ap, subst, inl}
 use Rattle.std.proofs.lemmas.List.{append-nil, append_assoc, length-append, map-append}
 use Rattle.service.specs.Received.{ReceivedValue}
-use Rattle.connections.specs.auxiliary.Gathering.{AreGatheredBehind}
 use Rattle.connections.specs.Heard.{AreHanded, AreGathered, IsCutShort, waits_behind}
-use Rattle.connections.specs.Parts.{HandedValue, readings}
-use Rattle.connections.specs.Turns.{AreGiven}
 use Rattle.connections.specs.declared.clock.ClockFailed.{ClockFailed}
+use Rattle.connections.specs.{auxiliary.Gathering.AreGatheredBehind, Parts.HandedValue, Parts.readings, Turns.AreGiven}
 use Rattle.connections.proofs.PartsLemmas.{given_then, handed_then}
 
 -- these were handed out behind those before

@@ -1,24 +1,17 @@
 -- Those that were handed out, answered: one behind the other, and together.
 use Rattle.std.proofs.Common.{◌≡◌, ◌∙◌, ℕ, ◌+◌, ◌<◌, ◌≤◌, List, [], ◌∷◌, ◌++◌, length, map, Option, Result, Ok, Err}
 use Rattle.std.proofs.Common.{arith, refl, sym, ap, subst, IfOk, OnErr, MatchOption}
-use Rattle.std.specs.Result.{result_ok}
-use Rattle.std.specs.List.{AllByRecursion}
 use Rattle.std.proofs.lemmas.List.{append-nil, append_assoc, length-append, length-map, map-append}
+use Rattle.std.specs.{Result.result_ok, List.AllByRecursion}
 use Rattle.policy.specs.Record.{PolicyValue}
 use Rattle.book.specs.declared.standing.Standing.{Ghosts}
 use Rattle.cms.specs.declared.signer.SignerFault.{SignerFault}
-use Rattle.desk.specs.Batches.{Question}
-use Rattle.desk.specs.CallContract.{DeskValue}
-use Rattle.desk.specs.Command.{Answer}
-use Rattle.desk.specs.MachineRuns.{Told}
-use Rattle.desk.specs.Outcome.{Outcome}
 use Rattle.desk.specs.Together.{AreRejectedUnasked, IsAnsweredTogether}
-use Rattle.service.specs.Stamps.{AsksStamp}
-use Rattle.service.specs.declared.exchange.Exchanged.{Exchanged}
+use Rattle.desk.specs.{Batches.Question, CallContract.DeskValue, Command.Answer, MachineRuns.Told, Outcome.Outcome}
+use Rattle.service.specs.{Stamps.AsksStamp, declared.exchange.Exchanged.Exchanged}
 use Rattle.connections.specs.auxiliary.Gathering.{AreAsked, AreReplied, AreSent, AreWritten, IsSent}
-use Rattle.connections.specs.Heard.{Hall, AreAnswered, AreTakenBack, hall}
 use Rattle.connections.specs.Parts.{Answered, HandedValue, Member, alone, together, IsAlone, IsMember, most_together}
-use Rattle.connections.specs.Parts.{answered_along}
+use Rattle.connections.specs.{Heard.Hall, Heard.AreAnswered, Heard.AreTakenBack, Heard.hall, Parts.answered_along}
 use Rattle.connections.proofs.PartsLemmas.{answered_then, done_then, handed_in_turn, taken_then}
 
 -- as many replies as stamps
@@ -170,12 +163,12 @@ module _ {L S B X : Type 0} (takes_back : L → S → Exchanged → L → Type 0
 
   pub one_answered : (a : Answered S) (steps : List Told) (old new : Hall L (Unit {0}) B X)
       → IsAlone contents g signs count a steps old.others.desk old.others.signer new.others.desk new.others.signer
-      → takes_back old.hearing a.stream_after a.exchanged new.hearing → All (a.handed ∷ []) old new
+      → takes_back old.source a.stream_after a.exchanged new.source → All (a.handed ∷ []) old new
   one_answered a steps old new done back = record {
     parts = alone a steps ∷ [];
     are = refl;
     done = record { desk = new.others.desk; signer = new.others.signer; first = done; rest = (refl, refl) };
-    back = (new.hearing, (back, refl));
+    back = (new.source, (back, refl));
   }
 
   pub all_answered : (xs ys : List (HandedValue S)) (old mid new : Hall L (Unit {0}) B X) → All xs old mid
@@ -187,10 +180,10 @@ module _ {L S B X : Type 0} (takes_back : L → S → Exchanged → L → Type 0
         ∙ ap (λ zs. xs ++ zs) second.are);
     done = done_then contents g signs count first.parts old.others.desk old.others.signer mid.others.desk
         mid.others.signer second.parts new.others.desk new.others.signer first.done second.done;
-    back = subst (λ zs. AreTakenBack takes_back old.hearing zs new.hearing)
+    back = subst (λ zs. AreTakenBack takes_back old.source zs new.source)
         (sym (answered_then first.parts second.parts))
-        (taken_then takes_back old.hearing (answered_along first.parts) mid.hearing (answered_along second.parts)
-        new.hearing first.back second.back);
+        (taken_then takes_back old.source (answered_along first.parts) mid.source (answered_along second.parts)
+        new.source first.back second.back);
   }
 
   pub together_answered : (ones : List (HandedValue S)) (answers : List Answer) (old new : L) (desk : DeskValue B)

@@ -5,14 +5,11 @@ use Rattle.std.proofs.lemmas.List.{length-append, length-map, map-append}
 use Rattle.book.specs.declared.standing.Standing.{Ghosts}
 use Rattle.cms.specs.declared.signer.SignerFault.{SignerFault}
 use Rattle.desk.specs.MachineRuns.{IsProper}
-use Rattle.service.specs.Received.{ReceivedValue}
-use Rattle.service.specs.declared.exchange.Exchanged.{Exchanged}
+use Rattle.service.specs.{Received.ReceivedValue, declared.exchange.Exchanged.Exchanged}
 use Rattle.connections.specs.Heard.{Hall, IsHeard, failed, answered, Follow, AreHeard, StopsHearing}
-use Rattle.connections.specs.Heard.{counted_along}
-use Rattle.connections.specs.Parts.{handed_along, readings}
-use Rattle.connections.specs.Run.{ServesEach}
 use Rattle.connections.specs.Turns.{State, untold, AreGiven, IsServedBy, StopsByClock}
 use Rattle.connections.specs.declared.clock.ClockFailed.{ClockFailed}
+use Rattle.connections.specs.{Heard.counted_along, Parts.handed_along, Parts.readings, Run.ServesEach}
 use Rattle.connections.proofs.PartsLemmas.{given_then, handed_in_turn, done_then, done_setting, done_honest}
 use Rattle.connections.proofs.RunLemmas.{RunLaws, served_run, stopped_run}
 use Rattle.connections.proofs.UntoldLemmas.{bare_part, bare_readings, as_many_bare, bare_done}

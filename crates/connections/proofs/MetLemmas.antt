@@ -3,22 +3,17 @@ use Rattle.std.proofs.Common.{◌≡◌, ℕ, ◌≤◌, ℤ, pos, ◌<ℤ◌, B
 use Rattle.std.proofs.Common.{T, nat_le, nat_lt, refl, sym, subst}
 use Rattle.std.proofs.lemmas.Bool.{leb-true}
 use Rattle.book.specs.History.{History, CalibrationValue, HoldValue}
-use Rattle.desk.specs.Command.{Command, Calibrate, Hold}
-use Rattle.desk.specs.MachineStep.{IsMet}
+use Rattle.desk.specs.declared.rights.Change.TheVariants.{Give, Take}
+use Rattle.desk.specs.{Command.Command, Command.Calibrate, Command.Hold, MachineStep.IsMet}
 use Rattle.policy.specs.Record.{AccountValue, PolicyValue}
-use Rattle.service.specs.Checks.{◌>>=◌, check, operator_shown}
 use Rattle.service.specs.Forms.{calibration_stated, hold_stated, most_uncertainty, fields_counted, field_stated}
-use Rattle.service.specs.Heads.{HeadValue, head_value}
-use Rattle.service.specs.Numbers.{micros_in, signed_in}
 use Rattle.service.specs.Requests.{Asked, Step, Look, IsRequest, headless, cut_head, refused_head, cut_body, whole}
 use Rattle.service.specs.Requests.{asked_by, asked_of, asked_of_deposit, calibration_asked, found_by, hold_asked}
-use Rattle.service.specs.Routes.{segment}
-use Rattle.service.specs.declared.refusal.Refusal.{Refusal}
+use Rattle.service.specs.{Checks.◌>>=◌, Checks.check, Checks.operator_shown, Heads.HeadValue, Heads.head_value}
+use Rattle.service.specs.{Numbers.micros_in, Numbers.signed_in, Routes.segment, declared.refusal.Refusal.Refusal}
+use Rattle.service.specs.{declared.routes.Action.Action, declared.routes.DepositAction.DepositAction}
 use Rattle.service.specs.declared.refusal.Refusal.TheVariants as refusal
-use Rattle.service.specs.declared.routes.Action.{Action}
 use Rattle.service.specs.declared.routes.Action.TheVariants as action
-use Rattle.desk.specs.declared.rights.Change.TheVariants.{Give, Take}
-use Rattle.service.specs.declared.routes.DepositAction.{DepositAction}
 use Rattle.service.specs.declared.routes.DepositAction.TheVariants as deposit
 
 abbrev IsMetBy : History → Result Asked Refusal → Type 0

@@ -5,13 +5,10 @@ use Rattle.std.proofs.lemmas.List.{append_assoc, map-append}
 use Rattle.book.specs.declared.standing.Standing.{Ghosts}
 use Rattle.cms.specs.declared.signer.SignerFault.{SignerFault}
 use Rattle.desk.specs.CallContract.{DeskValue}
-use Rattle.service.specs.Received.{ReceivedValue}
-use Rattle.service.specs.declared.exchange.Exchanged.{Exchanged}
-use Rattle.connections.specs.Heard.{AreHanded, AreTakenBack}
+use Rattle.service.specs.{Received.ReceivedValue, declared.exchange.Exchanged.Exchanged}
 use Rattle.connections.specs.Parts.{Answered, HandedValue, Part, alone, together, answered_in, answered_along}
-use Rattle.connections.specs.Parts.{handed_along, AreDone}
-use Rattle.connections.specs.Turns.{AreGiven}
 use Rattle.connections.specs.declared.clock.ClockFailed.{ClockFailed}
+use Rattle.connections.specs.{Heard.AreHanded, Heard.AreTakenBack, Parts.handed_along, Parts.AreDone, Turns.AreGiven}
 
 pub given_then : {C : Type 0} (reads : C → Result ℤ ClockFailed → C → Type 0) (old : C) (rs : List ℤ) (mid : C)
     (more : List ℤ) (new : C) → AreGiven reads old rs mid → AreGiven reads mid more new

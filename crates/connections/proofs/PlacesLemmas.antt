@@ -2,25 +2,20 @@
 use Rattle.std.proofs.Common.{◌≡◌, ◌∙◌, ◌⊎◌, ℕ, ◌+◌, ◌<◌, ◌≤◌, Bool, true, false, List, [], ◌∷◌, ◌++◌, length, map}
 use Rattle.std.proofs.Common.{zero, suc, take, drop, set, get_or, Option, Some, None, arith}
 use Rattle.std.proofs.Common.{MatchOption, OnSome, refl, sym, ap, subst, inl, inr}
-use Rattle.std.proofs.KnownBytes.{Consumes-nil, Consumes-trans}
 use Rattle.std.proofs.Math.Seq.{get_or-append_seam, map-set_same, split_at}
 use Rattle.std.proofs.lemmas.List.{append-nil, append_assoc, length-append, length-map, length-take-le, map-append}
-use Rattle.std.proofs.lemmas.List.{take_all}
-use Rattle.std.proofs.lemmas.List.{get_or-map, map-set}
-use Rattle.std.proofs.lemmas.List.Elements.{length_all_zip}
-use Rattle.std.specs.List.{AllByRecursion}
-use Rattle.std.specs.Time.{instant_nanos}
-use Rattle.std.proofs.lemmas.Bool.{false≢true}
-use Rattle.std.specs.Io.KnownBytes.{Consumes, IsAtEnd}
-use Rattle.connections.specs.Acceptor.{came, AreTold, IsFine, WasShort}
+use Rattle.std.proofs.{KnownBytes.Consumes-nil, KnownBytes.Consumes-trans, lemmas.List.take_all, lemmas.List.get_or-map}
+use Rattle.std.proofs.{lemmas.List.map-set, lemmas.List.Elements.length_all_zip, lemmas.Bool.false≢true}
+use Rattle.std.specs.{List.AllByRecursion, Time.instant_nanos, Io.KnownBytes.Consumes, Io.KnownBytes.IsAtEnd}
 use Rattle.connections.specs.Places.{Place, Intake, IsReadOn, AreReadOn, IsAt, IsNew, IsTakenOut, AreAdded}
 use Rattle.connections.specs.Places.{AreAllUnfinished, AreRounds, AreWaitedFor, FailsOne, GivesOne, GivesWay}
 use Rattle.connections.specs.Places.{IsFailure, IsGivenUp, IsUnfinished, LosesOne, MayGiveWay, TakesOne}
 use Rattle.connections.specs.Places.{most_places, most_rounds, refused, lost, crowded, short, unheard}
-use Rattle.connections.specs.Waiting.{place_of, ComesOf}
-use Rattle.connections.specs.declared.acceptor.Accepted.{Accepted}
 use Rattle.connections.specs.declared.acceptor.Accepted.TheVariants.{One, Nothing, Short, Failed}
-use Rattle.connections.specs.declared.waiting.Waiting.{Waiting}
+use Rattle.connections.specs.{Acceptor.came, Acceptor.AreTold, Acceptor.IsFine, Acceptor.WasShort}
+use Rattle.connections.specs.{WaitingConnection.place_of}
+use Rattle.connections.specs.{WaitingConnection.ComesOf, declared.acceptor.Accepted.Accepted}
+use Rattle.connections.specs.{declared.waiting_connection.WaitingConnection.WaitingConnection}
 
 pub all_then : {A : Type 0} (P : A → Type 0) (xs ys : List A) → AllByRecursion P xs → AllByRecursion P ys
     → AllByRecursion P (xs ++ ys)
@@ -366,7 +361,7 @@ module _ {A S : Type 0} (tells : A → Accepted S → A → Type 0) (shows : ℕ
       unheard (omega (arith, all, length-append told more)) same
 
   -- what comes behind
-  pub comes_later : (old mid new : Intake A S) → Waits old mid → (done : Option (Waiting S))
+  pub comes_later : (old mid new : Intake A S) → Waits old mid → (done : Option (WaitingConnection S))
       → ComesOf tells shows remaining fails most mid done new
       → ComesOf tells shows remaining fails most old done new
   comes_later old mid new waits None later = record {
@@ -388,7 +383,7 @@ module _ {A S : Type 0} (tells : A → Accepted S → A → Type 0) (shows : ℕ
 
   -- what comes of those that have places
   pub comes_done : (now : ℕ) → shows now → (old mid new : Intake A S) → Waits old mid → new.acceptor ≡ mid.acceptor
-      → (done : Option (Waiting S))
+      → (done : Option (WaitingConnection S))
       → MatchOption done ((one : Place S) × LosesOne remaining fails now mid.places one new.places)
       (λ one. GivesOne remaining fails mid.places (place_of one) new.places)
       → ComesOf tells shows remaining fails most old done new
@@ -442,7 +437,7 @@ none_before place all end before =
     subst (AllByRecursion (λ one. IsUnfinished one.received)) (take_all place all end) before
 
 -- nor is the next, which is read
-next_before : {S : Type 0} (all : List (Waiting S)) (place : ℕ) (one : Waiting S) → place < length all
+next_before : {S : Type 0} (all : List (WaitingConnection S)) (place : ℕ) (one : WaitingConnection S) → place < length all
     → IsUnfinished one.request → AreBefore place (map place_of all)
     → AreBefore (suc place) (map place_of (set all place one))
 next_before [] place one within is before = absurd (omega (arith, within))
@@ -450,7 +445,7 @@ next_before (x ∷ xs) zero one within is before = (is, tt)
 next_before (x ∷ xs) (suc i) one within is before =
     (before.0, next_before xs i one (omega (arith, within)) is before.1)
 
-pub one_more_before : {S : Type 0} (all : List (Waiting S)) (place : ℕ) (one : Waiting S) → place < length all
+pub one_more_before : {S : Type 0} (all : List (WaitingConnection S)) (place : ℕ) (one : WaitingConnection S) → place < length all
     → IsUnfinished one.request → AreBefore place (map place_of all)
     → AreBefore (place + 1) (map place_of (set all place one))
 one_more_before all place one within is before =
@@ -459,7 +454,7 @@ one_more_before all place one within is before =
 
 -- one of them is read once more
 pub read_once_more : {S : Type 0} (remaining : S → Option (List ℕ)) (fails : S → Type 0) (old : List (Place S))
-    (mid : List (Waiting S)) (place : ℕ) (was one : Waiting S) → place < length mid → was ≡ get_or mid place was
+    (mid : List (WaitingConnection S)) (place : ℕ) (was one : WaitingConnection S) → place < length mid → was ≡ get_or mid place was
     → AreReadOn remaining fails old (map place_of mid) → IsReadOn remaining fails (place_of was) (place_of one)
     → AreReadOn remaining fails old (map place_of (set mid place one))
 read_once_more remaining fails old mid place was one within is read next =
@@ -467,7 +462,7 @@ read_once_more remaining fails old mid place was one within is read next =
     (subst (λ w. IsReadOn remaining fails (place_of w) (place_of one)) is next)
 
 -- one of them is heard of
-pub heard_same : {S : Type 0} (items : List (Waiting S)) (i : ℕ) (one was : Waiting S)
+pub heard_same : {S : Type 0} (items : List (WaitingConnection S)) (i : ℕ) (one was : WaitingConnection S)
     → one.request ≡ (get_or items i was).request → one.peer.stream ≡ (get_or items i was).peer.stream
     → one.taken ≡ (get_or items i was).taken → one.has_failed ≡ (get_or items i was).has_failed
     → map place_of (set items i one) ≡ map place_of items
@@ -524,7 +519,7 @@ given_way tells shows most old new one way told unread full few =
 
 -- those that are read on before one is given
 pub given_behind : {S : Type 0} (remaining : S → Option (List ℕ)) (fails : S → Type 0) (old mid new : List (Place S))
-    → AreReadOn remaining fails old mid → (taken : Option (Waiting S))
+    → AreReadOn remaining fails old mid → (taken : Option (WaitingConnection S))
     → MatchOption taken (AreAllUnfinished remaining fails mid new)
     (λ one. GivesOne remaining fails mid (place_of one) new)
     → MatchOption taken (AreAllUnfinished remaining fails old new)

@@ -1,34 +1,22 @@
 -- Connections are a run of the machine.
 use Rattle.std.proofs.Common.{◌≡◌, ◌∙◌, ◌⊎◌, ℕ, ℤ, List, [], ◌∷◌, ◌++◌, map, Option, Some, None, Result, Ok, Err, refl}
-use Rattle.std.proofs.Common.{ap}
 use Rattle.std.proofs.Common.{subst, sym, inl, inr, IsErr}
-use Rattle.std.proofs.lemmas.Bool.{false≢true}
-use Rattle.book.specs.declared.standing.Standing.{Ghosts}
-use Rattle.book.specs.History.{History}
-use Rattle.book.specs.Readers.{Reader, Viewer}
-use Rattle.book.specs.Rights.{is_reader}
-use Rattle.book.specs.Sound.{IsSound}
-use Rattle.book.specs.Stands.{OnlyLooks, Stands}
+use Rattle.std.proofs.{Common.ap, lemmas.Bool.false≢true}
+use Rattle.book.specs.{declared.standing.Standing.Ghosts, History.History, Readers.Reader, Readers.Viewer}
+use Rattle.book.specs.{Rights.is_reader, Sound.IsSound, Stands.OnlyLooks, Stands.Stands}
 use Rattle.cms.specs.declared.signer.SignerFault.{SignerFault}
 use Rattle.policy.specs.Record.{PolicyValue}
-use Rattle.desk.specs.Batches.{Question, stamp_for, stamps_for}
 use Rattle.desk.specs.Command.{Setting, Command, Stamp, Begin, Finish, Abandon, Deposit, Show, Token, ListAll, Grant}
 use Rattle.desk.specs.Command.{Revoke, Calibrate, Hold, Succeed, Answer, setting_after}
-use Rattle.desk.specs.Effects.{Effect}
-use Rattle.desk.specs.Agreement.{Agree}
 use Rattle.desk.specs.Laws.{AreMet, AreCommandsOf, Concerns, Continues, IsCommandOfOther, RunsAlike, StaysFor}
-use Rattle.desk.specs.Outcome.{Outcome}
-use Rattle.desk.specs.Promises.{KeepsPromises}
-use Rattle.desk.specs.RunContract as ran
-use Rattle.desk.specs.Readers.{rights_along}
 use Rattle.desk.specs.MachineRuns.{Told, Runs, Journey, HasProperties, IsProper, after}
-use Rattle.desk.specs.Serials.{given_along, AreInOrder}
-use Rattle.desk.specs.MachineStep.{HasEffect, IsMet, Moves}
-use Rattle.desk.specs.Viewers.{viewer_in}
 use Rattle.desk.specs.CallContract.{DeskValue, HasStepped, IsStep, MayBeLeft, no_signer, with_signer}
+use Rattle.desk.specs.{Effects.Effect, Agreement.Agree, Outcome.Outcome, Promises.KeepsPromises, Readers.rights_along}
+use Rattle.desk.specs.{Batches.Question, Batches.stamp_for, Batches.stamps_for, MachineStep.HasEffect}
+use Rattle.desk.specs.{MachineStep.IsMet, MachineStep.Moves, Serials.given_along, Serials.AreInOrder, Viewers.viewer_in}
+use Rattle.desk.specs.RunContract as ran
 use Rattle.desk.proofs.journeys.Whole.{continued}
-use Rattle.service.specs.Requests.{IsRequest, Step}
-use Rattle.service.specs.Served.{Turn, AreTaken, Steps}
+use Rattle.service.specs.{Requests.IsRequest, Requests.Step, Served.Turn, Served.AreTaken, Served.Steps}
 use Rattle.connections.specs.Parts.{Answered, Member, Part, alone, together, IsAlone, AreTogether, AreDone}
 use Rattle.connections.specs.Run.{commands_in, commands_of, answers_of, all_outcomes, Arrives}
 use Rattle.connections.specs.Run.{IsDoubtedBy, MayBeLeftAlong, IsRunAlong, ServesEach}

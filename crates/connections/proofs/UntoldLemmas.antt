@@ -1,19 +1,14 @@
 -- What is served over a stream, where nothing of that is told.
 use Rattle.std.proofs.Common.{◌≡◌, ◌∙◌, ℕ, ℤ, List, [], ◌∷◌, ◌++◌, length, map, Option, Result, arith, refl, sym}
-use Rattle.std.proofs.Common.{ap, subst, inl, inr}
-use Rattle.std.proofs.lemmas.List.{length-map, map-append}
+use Rattle.std.proofs.{Common.ap, Common.subst, Common.inl, Common.inr, lemmas.List.length-map, lemmas.List.map-append}
 use Rattle.std.specs.List.{AllByRecursion}
 use Rattle.policy.specs.Record.{PolicyValue}
 use Rattle.book.specs.declared.standing.Standing.{Ghosts}
 use Rattle.cms.specs.declared.signer.SignerFault.{SignerFault}
-use Rattle.desk.specs.Batches.{stamp_for}
-use Rattle.desk.specs.CallContract.{DeskValue}
-use Rattle.desk.specs.MachineRuns.{Told}
-use Rattle.desk.specs.Together.{IsAnsweredTogether}
-use Rattle.service.specs.Answers.{AnswerValue, answer_to}
+use Rattle.desk.specs.{Batches.stamp_for, CallContract.DeskValue, MachineRuns.Told, Together.IsAnsweredTogether}
 use Rattle.service.specs.Served.{Turn, IsIdle, IsSilent, AreTaken, IsAnswerAlone, refuses, looks, wants_early, IsAnswer}
 use Rattle.service.specs.Served.{Sends, SendsOctets, Writes, Extracts, Ends, Serves}
-use Rattle.service.specs.declared.served.Served.{Served}
+use Rattle.service.specs.{Answers.AnswerValue, Answers.answer_to, declared.served.Served.Served}
 use Rattle.service.specs.declared.served.Served.TheVariants as served
 use Rattle.connections.specs.Parts.{Answered, HandedValue, Member, Part, alone, together, answered_in, answered_along}
 use Rattle.connections.specs.Parts.{handed_along, readings, IsDone, IsMember, AreDone}

@@ -5,20 +5,18 @@ use Rattle.std.specs.Prelude.{Result, Err}
 use Rattle.book.specs.declared.standing.Standing.{Ghosts}
 use Rattle.cms.specs.declared.signer.SignerFault.{SignerFault}
 use Rattle.desk.specs.CallContract.{DeskValue}
-use Rattle.service.specs.Received.{ReceivedValue}
-use Rattle.service.specs.declared.exchange.Exchanged.{Exchanged}
+use Rattle.service.specs.{Received.ReceivedValue, declared.exchange.Exchanged.Exchanged}
 use Rattle.connections.specs.Parts.{Answered, HandedValue, Part, answered_along, handed_along, readings, AreDone}
-use Rattle.connections.specs.Turns.{State, AreGiven}
-use Rattle.connections.specs.declared.clock.ClockFailed.{ClockFailed}
+use Rattle.connections.specs.{Turns.State, Turns.AreGiven, declared.clock.ClockFailed.ClockFailed}
 
 -- what connections are heard on, and the clock, the desk and the signer
 pub record Hall (L C B X : Type 0) : Type 0 where
-  pub hearing : L
+  pub source : L
   pub others : State C B X
 
 abbrev pub hall : {L C B X : Type 0} → L → C → DeskValue B → X → Hall L C B X
-hall hearing clock desk signer = record {
-  hearing = hearing;
+hall source clock desk signer = record {
+  source = source;
   others = record { clock = clock; desk = desk; signer = signer };
 }
 
@@ -79,14 +77,14 @@ module _ {L S C B X : Type 0} (takes_back : L → S → Exchanged → L → Type
     pub parts : List (Part S)
     pub are : handed_along parts ≡ ones
     pub done : AreDone contents g signs count parts old.others.desk old.others.signer new.others.desk new.others.signer
-    pub back : AreTakenBack takes_back old.hearing (answered_along parts) new.hearing
+    pub back : AreTakenBack takes_back old.source (answered_along parts) new.source
 
 module _ {L S C B X : Type 0} (hands : L → Option ℕ → ReceivedValue → S → L → Type 0)
     (reads : C → Result ℤ ClockFailed → C → Type 0) where
   -- The clock was asked for a connection that was handed out, and failed: it is dropped, with those that were gathered
   -- before it, and nothing is done for them.
   pub record IsDropped (connections : ℕ) (old new : Hall L C B X) : Type 0 where
-    pub cut : IsCutShort hands reads (Some connections) connections old.hearing old.others.clock new.hearing
+    pub cut : IsCutShort hands reads (Some connections) connections old.source old.others.clock new.source
         new.others.clock
     pub desk : new.others.desk ≡ old.others.desk
     pub signer : new.others.signer ≡ old.others.signer
@@ -101,7 +99,7 @@ module _ {L S C B X : Type 0} (hands : L → Option ℕ → ReceivedValue → S 
     pub handed : List (HandedValue S)
     pub counted : length handed ≡ connections
     pub between : L
-    pub gathered : AreGathered hands stays reads (Some most) handed old.hearing old.others.clock between
+    pub gathered : AreGathered hands stays reads (Some most) handed old.source old.others.clock between
         new.others.clock
     pub answered : AreAnswered takes_back contents g signs count handed
         (hall between new.others.clock old.others.desk old.others.signer) new
@@ -109,7 +107,7 @@ module _ {L S C B X : Type 0} (hands : L → Option ℕ → ReceivedValue → S 
   -- what comes of one connection, or of several that were gathered, of so many that are still to be counted
   pub data IsHeard (most connections : ℕ) (old new : Hall L C B X) : Type 0 where
     -- one fails, or is given up: nothing is done, and the clock isn't asked
-    failed : connections ≡ 1 → fails old.hearing most new.hearing → new.others ≡ old.others
+    failed : connections ≡ 1 → fails old.source most new.source → new.others ≡ old.others
         → IsHeard most connections old new
     -- they are answered
     answered : IsServed most connections old new → IsHeard most connections old new

@@ -1,11 +1,11 @@
 pub mod Acceptor
 pub mod Clock
-pub mod Closing
+pub mod ClosingConnection
 pub mod Heard
 pub mod Look
 pub mod Parts
 pub mod Places
 pub mod Run
 pub mod Turns
-pub mod Waiting
+pub mod WaitingConnection
 pub mod auxiliary

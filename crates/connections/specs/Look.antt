@@ -1,9 +1,7 @@
 -- The looks that a clock keeps, as contracts see them.
-use Rattle.std.specs.Prelude.{Option, Some, None}
-use Rattle.std.specs.Time.{instant_nanos, system_time_nanos}
-use Rattle.connections.specs.Clock.{Look, Looks}
-use Rattle.connections.specs.declared.look.Look.{Look as Kept}
+use Rattle.std.specs.{Prelude.Option, Prelude.Some, Prelude.None, Time.instant_nanos, Time.system_time_nanos}
 use Rattle.connections.specs.declared.look.Looks.{Looks as AllKept}
+use Rattle.connections.specs.{Clock.Look, Clock.Looks, declared.look.Look.Look as Kept}
 
 abbrev pub look_of : Kept → Look
 look_of kept = record {

@@ -1,21 +1,14 @@
 -- Connections that were handed out one after the other, and what comes of them in that order: one is served by itself,
 -- or the stamps that several ask for are answered together.
 use Rattle.std.specs.Prelude.{◌≡◌, ℕ, ◌<◌, ◌≤◌, ℤ, true, List, [], ◌∷◌, ◌++◌, map, length, take, Option, Result}
-use Rattle.std.specs.Io.KnownBytes.{Consumes, IsAtEnd}
-use Rattle.std.specs.List.{AllByRecursion}
+use Rattle.std.specs.{Io.KnownBytes.Consumes, Io.KnownBytes.IsAtEnd, List.AllByRecursion}
 use Rattle.policy.specs.Record.{PolicyValue}
 use Rattle.book.specs.declared.standing.Standing.{Ghosts}
 use Rattle.cms.specs.declared.signer.SignerFault.{SignerFault}
 use Rattle.desk.specs.Batches.{Question, stamp_for}
-use Rattle.desk.specs.CallContract.{DeskValue}
-use Rattle.desk.specs.Command.{Answer}
-use Rattle.desk.specs.MachineRuns.{Told}
-use Rattle.desk.specs.Together.{IsAnsweredTogether}
-use Rattle.service.specs.Answers.{answer_to}
-use Rattle.service.specs.Received.{ReceivedValue, IsAll}
-use Rattle.service.specs.Served.{Sends, Serves}
-use Rattle.service.specs.Stamps.{AsksStamp}
-use Rattle.service.specs.declared.exchange.Exchanged.{Exchanged}
+use Rattle.desk.specs.{CallContract.DeskValue, Command.Answer, MachineRuns.Told, Together.IsAnsweredTogether}
+use Rattle.service.specs.{Answers.answer_to, Received.ReceivedValue, Received.IsAll, Served.Sends, Served.Serves}
+use Rattle.service.specs.{Stamps.AsksStamp, declared.exchange.Exchanged.Exchanged}
 
 -- a connection that was handed out: what came of its request, what its answer goes to, and the reading that the clock
 -- gave for it

@@ -1,12 +1,10 @@
 -- Connections whose requests are still to come, in the order in which they were taken, and what came of each.
 use Rattle.std.specs.Prelude.{◌≡◌, ◌⊎◌, ℕ, ◌+◌, ◌<◌, ◌≤◌, Bool, true, false, List, [], ◌∷◌, ◌++◌, length, map}
 use Rattle.std.specs.Prelude.{slice_index_or, Option, OnSome}
-use Rattle.std.specs.Io.KnownBytes.{Consumes, IsAtEnd}
-use Rattle.std.specs.List.{AllByRecursion, AllZip}
+use Rattle.std.specs.{Io.KnownBytes.Consumes, Io.KnownBytes.IsAtEnd, List.AllByRecursion, List.AllZip}
 use Rattle.service.specs.Received.{ReceivedValue, is_open}
 use Rattle.connections.specs.Acceptor.{came, AreTold, IsFine, WasShort}
-use Rattle.connections.specs.declared.acceptor.Accepted.{Accepted}
-use Rattle.connections.specs.declared.acceptor.Accepted.TheVariants.{Failed}
+use Rattle.connections.specs.{declared.acceptor.Accepted.Accepted, declared.acceptor.Accepted.TheVariants.Failed}
 
 -- A connection that has a place: what came of its request, and the stream of which it came; when it was taken, in
 -- nanoseconds; and whether reading it failed.

@@ -1,22 +1,13 @@
 -- Connections are a run of the machine: those that asked for a command, over these commands in their order, with the
 -- desk's replies. The others leave the history.
 use Rattle.std.specs.Prelude.{◌≡◌, ◌⊎◌, ℕ, ℤ, List, [], ◌∷◌, ◌++◌, map, Result, Ok, Err}
-use Rattle.book.specs.declared.standing.Standing.{Ghosts}
-use Rattle.book.specs.History.{History}
-use Rattle.book.specs.Stands.{Stands}
+use Rattle.book.specs.{declared.standing.Standing.Ghosts, History.History, Stands.Stands}
 use Rattle.cms.specs.declared.signer.SignerFault.{SignerFault}
-use Rattle.desk.specs.Batches.{stamps_for}
 use Rattle.desk.specs.Command.{Setting, Command, Answer, setting_after}
-use Rattle.desk.specs.Effects.{Effect}
-use Rattle.desk.specs.Laws.{AreMet}
-use Rattle.desk.specs.MachineRuns.{after}
-use Rattle.desk.specs.MachineStep.{HasEffect}
-use Rattle.desk.specs.Outcome.{Outcome}
-use Rattle.desk.specs.RunContract.{HasRun, IsDoubtedIn}
-use Rattle.desk.specs.Together.{IsDoubtedTogether}
-use Rattle.connections.specs.Parts.{Part, alone, together}
+use Rattle.desk.specs.{Batches.stamps_for, Effects.Effect, Laws.AreMet, MachineRuns.after, MachineStep.HasEffect}
+use Rattle.desk.specs.{Outcome.Outcome, RunContract.HasRun, RunContract.IsDoubtedIn, Together.IsDoubtedTogether}
 use Rattle.connections.specs.Turns.{State, IsServedBy, StopsByClock}
-use Rattle.connections.specs.declared.clock.ClockFailed.{ClockFailed}
+use Rattle.connections.specs.{Parts.Part, Parts.alone, Parts.together, declared.clock.ClockFailed.ClockFailed}
 
 -- a part's commands, and the desk's answers to them
 abbrev pub commands_in : {S : Type 0} → Part S → List Command

@@ -33,8 +33,7 @@ pub struct SystemClock<'a, R> {
 
 impl<'a, R> Model for SystemClock<'a, R> {
     ghost use Rattle.std.specs.Prelude.{Option};
-    ghost use Rattle.connections.specs.Clock.{Looks as SpecLooks};
-    ghost use Rattle.connections.specs.Look.{looks_of};
+    ghost use Rattle.connections.specs.{Clock.Looks as SpecLooks, Look.looks_of};
 
     ghost Value = { Option SpecLooks };
 

@@ -2,11 +2,10 @@
 ghost use Rattle.std.specs.Prelude.{◌≡◌, ◌+◌, ◌-◌, ◌<◌, ◌≤◌, [], length, map, Some, None, Ok, Err, IfOk, IfSome};
 ghost use Rattle.std.specs.Prelude.{MatchOption, MatchResult, OnErr, vec_capacity, vec_len};
 ghost use Rattle.connections.specs.auxiliary.Gathering.{AreGatheredBehind, gathered_in, handed_view, last_in};
-ghost use Rattle.connections.specs.Heard.{AreGathered, IsCutShort};
-ghost use Rattle.connections.specs.Parts.{most_together};
+ghost use Rattle.connections.specs.{Heard.AreGathered, Heard.IsCutShort, Parts.most_together};
 
 use crate::clock::{Clock, ClockFailed};
-use crate::hearing::Hearing;
+use crate::request_source::RequestSource;
 use service::Request;
 use std::alloc::Global;
 
@@ -83,19 +82,19 @@ fn room_beside<S: Drop>(first: &Handed<S>, most: usize, alloc: Global) -> Vec<Ha
 
 /// Gathers those that are whole already, as long as they ask for stamps, and there is room; the one that asks for
 /// something else ends it.
-fn gather_behind<L: Hearing, C: Clock>(
-    hearing: &mut L,
+fn gather_behind<L: RequestSource, C: Clock>(
+    source: &mut L,
     clock: &mut C,
     stamps: &mut Vec<Handed<L::Stream>>,
 ) -> Result<Option<Handed<L::Stream>>, ClockFailed>
     ensures gathered { IfOk result (λ last. AreGatheredBehind L.hands L.stays C.reads (map handed_view stamps.old.items)
-        (map handed_view stamps.new.items) (last_in last) hearing.old clock.old hearing.new clock.new) }
+        (map handed_view stamps.new.items) (last_in last) source.old clock.old source.new clock.new) }
     ensures few { IfOk result (λ last. length stamps.new.items + length (last_in last) ≤ vec_capacity stamps.old) }
     ensures cut { OnErr result (IsCutShort L.hands C.reads None (vec_capacity stamps.old - vec_len stamps.old)
-        hearing.old clock.old hearing.new clock.new) }
+        source.old clock.old source.new clock.new) }
 {
     'gathering: while stamps.len() < stamps.capacity() {
-        let Some((request, stream)) = hearing.next_now() else {
+        let Some((request, stream)) = source.next_now() else {
             return Ok(None);
         };
         let one = read_for(request, stream, clock)?;
@@ -109,28 +108,28 @@ fn gather_behind<L: Hearing, C: Clock>(
 
 /// Waits for the next connection whose request is whole, and, where it asks for a stamp, gathers those behind it that
 /// are whole already: at most so many of all, each at a reading of its own. None where one failed.
-pub(crate) fn gather<L: Hearing, C: Clock>(
-    hearing: &mut L,
+pub(crate) fn gather<L: RequestSource, C: Clock>(
+    source: &mut L,
     most: usize,
     clock: &mut C,
 ) -> Result<Option<Gathering<L::Stream>>, ClockFailed>
     requires some { 0 < most }
     ensures gathered { IfOk result (λ gathering. MatchOption gathering
-        (L.fails hearing.old most hearing.new × (clock.new ≡ clock.old))
-        (λ these. AreGathered L.hands L.stays C.reads (Some most) (gathered_in these) hearing.old clock.old hearing.new
+        (L.fails source.old most source.new × (clock.new ≡ clock.old))
+        (λ these. AreGathered L.hands L.stays C.reads (Some most) (gathered_in these) source.old clock.old source.new
         clock.new)) }
     ensures some { IfOk result (λ gathering. IfSome gathering (λ these. 0 < length (gathered_in these))) }
     ensures few { IfOk result (λ gathering. IfSome gathering (λ these. length (gathered_in these) ≤ most)) }
     ensures stamps { IfOk result (λ gathering. IfSome gathering
         (λ these. length these.stamps.items ≤ most_together)) }
     ensures cut { OnErr result
-        (IsCutShort L.hands C.reads (Some most) most hearing.old clock.old hearing.new clock.new) }
+        (IsCutShort L.hands C.reads (Some most) most source.old clock.old source.new clock.new) }
 {
-    let Some((request, stream)) = hearing.next(most) else {
+    let Some((request, stream)) = source.next(most) else {
         return Ok(None);
     };
     let first = read_for(request, stream, clock)?;
-    let mut stamps = room_beside(&first, most, hearing.alloc());
+    let mut stamps = room_beside(&first, most, source.alloc());
     if stamps.capacity() == 0 {
         return Ok(Some(Gathering {
             stamps,
@@ -138,6 +137,6 @@ pub(crate) fn gather<L: Hearing, C: Clock>(
         }));
     }
     stamps.push_reserved(first);
-    let last = gather_behind(hearing, clock, &mut stamps)?;
+    let last = gather_behind(source, clock, &mut stamps)?;
     Ok(Some(Gathering { stamps, last }))
 }

@@ -2,11 +2,10 @@
 ghost use Rattle.std.specs.Prelude.{◌≡◌, ◌≤◌, [], ◌∷◌, length, map, MatchOption};
 ghost use Rattle.desk.specs.Answers.{reply_as};
 ghost use Rattle.connections.specs.auxiliary.Gathering.{AreReplied, AreWritten, gathered_in, handed_view};
-ghost use Rattle.connections.specs.Heard.{AreAnswered, hall};
-ghost use Rattle.connections.specs.Parts.{most_together};
+ghost use Rattle.connections.specs.{Heard.AreAnswered, Heard.hall, Parts.most_together};
 
 use crate::gathering::{Gathering, Handed};
-use crate::hearing::Hearing;
+use crate::request_source::RequestSource;
 use book::Book;
 use cms::Signer;
 use desk::{Desk, Reply};
@@ -14,14 +13,14 @@ use service::Surroundings;
 use std::alloc::Global;
 
 /// Answers one by itself.
-fn answer_one<L: Hearing, B: Book + Drop, G: Signer>(
-    hearing: &mut L,
+fn answer_one<L: RequestSource, B: Book + Drop, G: Signer>(
+    source: &mut L,
     one: Handed<L::Stream>,
     desk: &mut Desk<'_, B>,
     signer: &mut G,
 )
     ensures { AreAnswered L.takes_back L.Stream.contents B.Standing G.signs G.fault_count (handed_view one ∷ [])
-        (hall hearing.old (tt {0}) desk.old signer.old) (hall hearing.new (tt {0}) desk.new signer.new) }
+        (hall source.old (tt {0}) desk.old signer.old) (hall source.new (tt {0}) desk.new signer.new) }
 {
     let Handed {
         request,
@@ -29,27 +28,27 @@ fn answer_one<L: Hearing, B: Book + Drop, G: Signer>(
         reading,
     } = one;
     let surroundings = Surroundings {
-        alloc: hearing.alloc(),
+        alloc: source.alloc(),
         reading,
-        octets: hearing.octets(),
+        octets: source.octets(),
     };
     let mut stream = stream;
     let exchanged = request.serve(surroundings, desk, signer, &mut stream);
-    hearing.take_back(stream, exchanged);
+    source.take_back(stream, exchanged);
 }
 
 /// Answers each by itself, one after the other.
-fn answer_in_turn<L: Hearing, B: Book + Drop, G: Signer>(
-    hearing: &mut L,
+fn answer_in_turn<L: RequestSource, B: Book + Drop, G: Signer>(
+    source: &mut L,
     ones: Vec<Handed<L::Stream>>,
     desk: &mut Desk<'_, B>,
     signer: &mut G,
 )
     ensures { AreAnswered L.takes_back L.Stream.contents B.Standing G.signs G.fault_count (map handed_view ones.items)
-        (hall hearing.old (tt {0}) desk.old signer.old) (hall hearing.new (tt {0}) desk.new signer.new) }
+        (hall source.old (tt {0}) desk.old signer.old) (hall source.new (tt {0}) desk.new signer.new) }
 {
     for one in ones {
-        answer_one(hearing, one, desk, signer);
+        answer_one(source, one, desk, signer);
     }
 }
 
@@ -76,10 +75,10 @@ fn replies_to<S: Drop, B: Book + Drop, G: Signer>(
 }
 
 /// Writes to each its reply, and takes it back.
-fn write_each<L: Hearing>(hearing: &mut L, stamps: Vec<Handed<L::Stream>>, replies: &[Reply])
+fn write_each<L: RequestSource>(source: &mut L, stamps: Vec<Handed<L::Stream>>, replies: &[Reply])
     requires as_many { length replies.now ≡ length stamps.items }
     ensures { AreWritten L.takes_back L.Stream.contents (map handed_view stamps.items) (map reply_as replies.now)
-        hearing.old hearing.new }
+        source.old source.new }
 {
     let mut rest = stamps.into_iter();
     for reply in replies {
@@ -91,45 +90,45 @@ fn write_each<L: Hearing>(hearing: &mut L, stamps: Vec<Handed<L::Stream>>, repli
             } = one;
             let mut stream = stream;
             let exchanged = request.write_stamped(reading, reply, &mut stream);
-            hearing.take_back(stream, exchanged);
+            source.take_back(stream, exchanged);
         }
     }
 }
 
 /// Answers them together where they are several, and else by themselves.
-fn answer_together<L: Hearing, B: Book + Drop, G: Signer>(
-    hearing: &mut L,
+fn answer_together<L: RequestSource, B: Book + Drop, G: Signer>(
+    source: &mut L,
     stamps: Vec<Handed<L::Stream>>,
     desk: &mut Desk<'_, B>,
     signer: &mut G,
 )
     requires few { length stamps.items ≤ most_together }
     ensures { AreAnswered L.takes_back L.Stream.contents B.Standing G.signs G.fault_count (map handed_view stamps.items)
-        (hall hearing.old (tt {0}) desk.old signer.old) (hall hearing.new (tt {0}) desk.new signer.new) }
+        (hall source.old (tt {0}) desk.old signer.old) (hall source.new (tt {0}) desk.new signer.new) }
 {
     if stamps.len() > 1 {
-        if let Some(replies) = replies_to(&stamps, hearing.alloc(), desk, signer) {
-            write_each(hearing, stamps, &replies);
+        if let Some(replies) = replies_to(&stamps, source.alloc(), desk, signer) {
+            write_each(source, stamps, &replies);
             return;
         }
     }
-    answer_in_turn(hearing, stamps, desk, signer);
+    answer_in_turn(source, stamps, desk, signer);
 }
 
 /// Answers those that were gathered, and then the one behind them. How many they were.
-pub(crate) fn answer_gathered<L: Hearing, B: Book + Drop, G: Signer>(
-    hearing: &mut L,
+pub(crate) fn answer_gathered<L: RequestSource, B: Book + Drop, G: Signer>(
+    source: &mut L,
     gathering: Gathering<L::Stream>,
     desk: &mut Desk<'_, B>,
     signer: &mut G,
 )
     requires few { length gathering.stamps.items ≤ most_together }
     ensures { AreAnswered L.takes_back L.Stream.contents B.Standing G.signs G.fault_count (gathered_in gathering)
-        (hall hearing.old (tt {0}) desk.old signer.old) (hall hearing.new (tt {0}) desk.new signer.new) }
+        (hall source.old (tt {0}) desk.old signer.old) (hall source.new (tt {0}) desk.new signer.new) }
 {
     let Gathering { stamps, last } = gathering;
-    answer_together(hearing, stamps, desk, signer);
+    answer_together(source, stamps, desk, signer);
     if let Some(one) = last {
-        answer_one(hearing, one, desk, signer);
+        answer_one(source, one, desk, signer);
     }
 }

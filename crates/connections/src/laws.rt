@@ -2,8 +2,7 @@
 ghost use Rattle.std.specs.Prelude.{ℤ, List, ℕ, Option, Ok};
 ghost use Rattle.policy.specs.Record.{PolicyValue};
 ghost use Rattle.book.specs.History.{History};
-ghost use Rattle.desk.specs.Command.{Command};
-ghost use Rattle.desk.specs.MachineStep.{IsMet};
+ghost use Rattle.desk.specs.{Command.Command, MachineStep.IsMet};
 ghost use Rattle.service.specs.Requests.{IsRequest, Step};
 
 /// A command that a request asks for has what its caller has to see to, whatever the history: a calibration's

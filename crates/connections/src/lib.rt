@@ -3,24 +3,24 @@
 
 mod acceptor;
 mod clock;
-mod closing;
+mod closing_connection;
 mod gathering;
 mod group;
-mod hearing;
+mod request_source;
 mod laws;
 mod limited;
-mod listening;
+mod reactor;
 mod look;
 mod peer;
 mod places;
 mod server;
 mod timer;
-mod waiting;
+mod waiting_connection;
 
 pub use acceptor::{Accepted, Acceptor, Connection};
 pub use clock::{Clock, ClockFailed, SystemClock};
-pub use hearing::Hearing;
+pub use request_source::RequestSource;
 pub use laws::requests_ask_for_what_is_met;
-pub use listening::Listening;
+pub use reactor::Reactor;
 pub use server::{serve_connections, serve_each};
 pub use timer::Timer;

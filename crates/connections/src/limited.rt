@@ -1,7 +1,6 @@
 //! A stream whose writes end by a moment.
 ghost use Rattle.std.specs.Prelude.{◌≡◌, None, IsSome, IsOk};
-ghost use Rattle.std.specs.Io.{WritesAtMost};
-ghost use Rattle.std.specs.Io.KnownBytes.{Keeps, WriteAppends};
+ghost use Rattle.std.specs.{Io.WritesAtMost, Io.KnownBytes.Keeps, Io.KnownBytes.WriteAppends};
 
 use crate::peer::Peer;
 use sockets::Duplex;

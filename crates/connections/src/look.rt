@@ -1,8 +1,6 @@
 //! Looks at the machine's clocks.
-ghost use Rattle.std.specs.Prelude.{◌≡◌, true, false, Some, IfOk};
-ghost use Rattle.std.specs.Duration.{as_nanos};
-ghost use Rattle.connections.specs.Clock.{GoAlike, GoesOn, with_look};
-ghost use Rattle.connections.specs.Look.{look_of, looks_of};
+ghost use Rattle.std.specs.{Prelude.◌≡◌, Prelude.true, Prelude.false, Prelude.Some, Prelude.IfOk, Duration.as_nanos};
+ghost use Rattle.connections.specs.{Clock.GoAlike, Clock.GoesOn, Clock.with_look, Look.look_of, Look.looks_of};
 
 use crate::clock::ClockFailed;
 use std::time::{Clock, Duration, Instant, SystemTime};

@@ -2,7 +2,7 @@
 ghost use Rattle.std.specs.Prelude.{◌≤◌, vec_capacity};
 
 use crate::acceptor::Connection;
-use crate::waiting::{Progress, Waiting, is_whole};
+use crate::waiting_connection::{Progress, WaitingConnection, is_whole};
 use mio::{Registry, Token};
 use service::Routes;
 use std::alloc::{AllocError, Global};
@@ -17,14 +17,14 @@ const PLACE_SECONDS: u64 = 2;
 /// The places of those that are waited for, in the order in which they were taken.
 #[derive(Drop)]
 pub(crate) struct Places<S> {
-    waiting: Vec<Waiting<S>>,
+    waiting: Vec<WaitingConnection<S>>,
     ghost room: { 256 ≤ vec_capacity waiting },
 }
 
 impl<S: Drop> Places<S> {
     ghost use Rattle.std.specs.Prelude.{◌≡◌, ◌<◌, [], ◌∷◌, ◌++◌, length, IfOk};
-    ghost use Rattle.connections.specs.Places.{GivesWay, most_places};
-    ghost use Rattle.connections.specs.Waiting.{place_of, places_of};
+    ghost use Rattle.connections.specs.{Places.GivesWay, Places.most_places, WaitingConnection.place_of};
+    ghost use Rattle.connections.specs.{WaitingConnection.places_of};
 
     /// None has a place yet.
     pub(crate) fn new(alloc: Global) -> Result<Places<S>, AllocError>
@@ -36,7 +36,7 @@ impl<S: Drop> Places<S> {
     }
 
     /// One more gets a place, behind the others.
-    pub(crate) fn push(&mut self, one: Waiting<S>)
+    pub(crate) fn push(&mut self, one: WaitingConnection<S>)
         requires { length (places_of self.old) < most_places }
         ensures { places_of self.new ≡ places_of self.old ++ (place_of one ∷ []) }
     {
@@ -44,7 +44,7 @@ impl<S: Drop> Places<S> {
     }
 
     /// One more gets a place, behind the others, for which the first loses its own.
-    pub(crate) fn replace_first(&mut self, one: Waiting<S>)
+    pub(crate) fn replace_first(&mut self, one: WaitingConnection<S>)
         requires { 0 < length (places_of self.old) }
         ensures { GivesWay (place_of one) (places_of self.old) (places_of self.new) }
     {
@@ -55,10 +55,9 @@ impl<S: Drop> Places<S> {
 
 impl<S> Places<S> {
     ghost use Rattle.std.specs.Prelude.{◌≡◌, ◌+◌, ◌<◌, length, IfSome};
-    ghost use Rattle.std.specs.Duration.{as_nanos};
-    ghost use Rattle.std.specs.Time.{instant_nanos};
+    ghost use Rattle.std.specs.{Duration.as_nanos, Time.instant_nanos};
     ghost use Rattle.connections.specs.Places.{IsAt, IsTakenOut, MayGiveWay};
-    ghost use Rattle.connections.specs.Waiting.{place_of, places_of};
+    ghost use Rattle.connections.specs.WaitingConnection.{place_of, places_of};
 
     /// How many have a place.
     pub(crate) fn len(&self) -> usize
@@ -80,7 +79,7 @@ impl<S> Places<S> {
     }
 
     /// Takes one out of its place.
-    pub(crate) fn remove(&mut self, place: usize) -> Waiting<S>
+    pub(crate) fn remove(&mut self, place: usize) -> WaitingConnection<S>
         requires { place < length (places_of self.old) }
         ensures { IsTakenOut place (place_of result) (places_of self.old) (places_of self.new) }
     {
@@ -116,11 +115,10 @@ pub(crate) fn lesser(least: Option<Duration>, left: Duration) -> Option<Duration
 
 impl<S: Connection + Drop> Places<S> {
     ghost use Rattle.std.specs.Prelude.{◌≡◌, IfSome, MatchOption};
-    ghost use Rattle.std.specs.Time.{instant_nanos};
-    ghost use Rattle.std.specs.List.{AllByRecursion};
+    ghost use Rattle.std.specs.{Time.instant_nanos, List.AllByRecursion};
     ghost use Rattle.connections.specs.Places.{AreAllUnfinished, AreReadOn, GivesOne, IsAt, IsUnfinished, IsWhole};
-    ghost use Rattle.connections.specs.Places.{LosesOne};
-    ghost use Rattle.connections.specs.Waiting.{IsDoneBy, place_of, places_of};
+    ghost use Rattle.connections.specs.{Places.LosesOne, WaitingConnection.IsDoneBy, WaitingConnection.place_of};
+    ghost use Rattle.connections.specs.{WaitingConnection.places_of};
 
     /// Reads what is there of each in turn: where the first stands that is done with, and whether its request is whole.
     fn first_done(
@@ -161,7 +159,7 @@ impl<S: Connection + Drop> Places<S> {
     }
 
     /// Another whose request is whole already is taken out of its place. None where there is none.
-    pub(crate) fn take_whole(&mut self, routes: &Routes, registry: &Registry) -> Option<Waiting<S>>
+    pub(crate) fn take_whole(&mut self, routes: &Routes, registry: &Registry) -> Option<WaitingConnection<S>>
         ensures { MatchOption result (AreAllUnfinished S.remaining S.fails (places_of self.old) (places_of self.new))
             (λ one. GivesOne S.remaining S.fails (places_of self.old) (place_of one) (places_of self.new)) }
     {
@@ -175,7 +173,7 @@ impl<S: Connection + Drop> Places<S> {
         routes: &Routes,
         registry: &Registry,
         now: Instant,
-    ) -> Option<Option<Waiting<S>>>
+    ) -> Option<Option<WaitingConnection<S>>>
         ensures { MatchOption result (AreReadOn S.remaining S.fails (places_of self.old) (places_of self.new))
             (λ done. MatchOption done ((one : _)
             × LosesOne S.remaining S.fails (instant_nanos now) (places_of self.old) one (places_of self.new))

@@ -1,18 +1,16 @@
 //! Connections whose requests are whole, one after the other.
 ghost use Rattle.std.specs.Prelude.{◌≡◌, ◌<◌, ◌≤◌, [], IfOk, OnErr, OnOk};
-ghost use Rattle.connections.specs.Closing.{IsFinished};
 ghost use Rattle.connections.specs.Heard.{AreHeard, IsDropped, IsHeard, StopsHearing, hall};
-ghost use Rattle.connections.specs.Run.{ServesEach};
-ghost use Rattle.connections.specs.Waiting.{places_of};
+ghost use Rattle.connections.specs.{ClosingConnection.IsFinished, Run.ServesEach, WaitingConnection.places_of};
 
 use crate::acceptor::Acceptor;
 use crate::clock::{Clock, ClockFailed};
 use crate::gathering::gather;
 use crate::group::answer_gathered;
-use crate::hearing::Hearing;
+use crate::request_source::RequestSource;
 use crate::laws::requests_ask_for_what_is_met;
 use crate::limited::Limited;
-use crate::listening::Listening;
+use crate::reactor::Reactor;
 use crate::timer::Timer;
 use book::Book;
 use cms::Signer;
@@ -27,8 +25,8 @@ pub(crate) const CONNECTION_SECONDS: u64 = 20;
 
 /// Waits for the next connection whose request is whole, gathers those that can be answered with it, and answers them.
 /// At most so many are waited for. How many they were; one where it failed.
-fn answer_next<L: Hearing, C: Clock, B: Book + Drop, G: Signer>(
-    hearing: &mut L,
+fn answer_next<L: RequestSource, C: Clock, B: Book + Drop, G: Signer>(
+    source: &mut L,
     most: usize,
     clock: &mut C,
     desk: &mut Desk<'_, B>,
@@ -37,17 +35,17 @@ fn answer_next<L: Hearing, C: Clock, B: Book + Drop, G: Signer>(
     requires some { 0 < most }
     ensures heard { IfOk result (λ count. IsHeard L.hands L.fails L.stays L.takes_back L.Stream.contents C.reads
         B.Standing G.signs G.fault_count most count
-        (hall hearing.old clock.old desk.old signer.old)
-        (hall hearing.new clock.new desk.new signer.new)) }
+        (hall source.old clock.old desk.old signer.old)
+        (hall source.new clock.new desk.new signer.new)) }
     ensures some { IfOk result (λ count. 0 < count) }
     ensures few { IfOk result (λ count. count ≤ most) }
-    ensures dropped { OnErr result (IsDropped L.hands C.reads most (hall hearing.old clock.old desk.old signer.old)
-        (hall hearing.new clock.new desk.new signer.new)) }
+    ensures dropped { OnErr result (IsDropped L.hands C.reads most (hall source.old clock.old desk.old signer.old)
+        (hall source.new clock.new desk.new signer.new)) }
 {
-    match gather(hearing, most, clock)? {
+    match gather(source, most, clock)? {
         Some(gathering) => {
             let count = gathering.count();
-            answer_gathered(hearing, gathering, desk, signer);
+            answer_gathered(source, gathering, desk, signer);
             Ok(count)
         }
         None => Ok(1),
@@ -55,8 +53,8 @@ fn answer_next<L: Hearing, C: Clock, B: Book + Drop, G: Signer>(
 }
 
 /// Answers so many connections.
-fn answer_all<L: Hearing, C: Clock, B: Book + Drop, G: Signer>(
-    hearing: &mut L,
+fn answer_all<L: RequestSource, C: Clock, B: Book + Drop, G: Signer>(
+    source: &mut L,
     count: u32,
     clock: &mut C,
     desk: &mut Desk<'_, B>,
@@ -64,16 +62,16 @@ fn answer_all<L: Hearing, C: Clock, B: Book + Drop, G: Signer>(
 ) -> Result<(), ClockFailed>
     ensures heard { OnOk result (AreHeard L.hands L.fails L.stays L.takes_back L.Stream.contents C.reads B.Standing
         G.signs G.fault_count count count
-        (hall hearing.old clock.old desk.old signer.old)
-        (hall hearing.new clock.new desk.new signer.new)) }
+        (hall source.old clock.old desk.old signer.old)
+        (hall source.new clock.new desk.new signer.new)) }
     ensures stopped { OnErr result (StopsHearing L.hands L.fails L.stays L.takes_back L.Stream.contents C.reads
         B.Standing G.signs G.fault_count count
-        (hall hearing.old clock.old desk.old signer.old)
-        (hall hearing.new clock.new desk.new signer.new)) }
+        (hall source.old clock.old desk.old signer.old)
+        (hall source.new clock.new desk.new signer.new)) }
 {
     let mut left = count as usize;
     'answering: while left > 0 {
-        left -= answer_next(hearing, left, clock, desk, signer)?;
+        left -= answer_next(source, left, clock, desk, signer)?;
     }
     Ok(())
 }
@@ -85,8 +83,8 @@ fn answer_all<L: Hearing, C: Clock, B: Book + Drop, G: Signer>(
 ///
 /// `ClockFailed` where the clock fails: the connection that was handed out is dropped then without an answer, with
 /// those that were to be answered with it, and no further one asked for.
-pub fn serve_each<L: Hearing, C: Clock, B: Book + Drop, G: Signer>(
-    hearing: &mut L,
+pub fn serve_each<L: RequestSource, C: Clock, B: Book + Drop, G: Signer>(
+    source: &mut L,
     count: u32,
     clock: &mut C,
     desk: &mut Desk<'_, B>,
@@ -94,12 +92,12 @@ pub fn serve_each<L: Hearing, C: Clock, B: Book + Drop, G: Signer>(
 ) -> Result<(), ClockFailed>
     ensures heard { OnOk result (AreHeard L.hands L.fails L.stays L.takes_back L.Stream.contents C.reads B.Standing
         G.signs G.fault_count count count
-        (hall hearing.old clock.old desk.old signer.old)
-        (hall hearing.new clock.new desk.new signer.new)) }
+        (hall source.old clock.old desk.old signer.old)
+        (hall source.new clock.new desk.new signer.new)) }
     ensures stopped { OnErr result (StopsHearing L.hands L.fails L.stays L.takes_back L.Stream.contents C.reads
         B.Standing G.signs G.fault_count count
-        (hall hearing.old clock.old desk.old signer.old)
-        (hall hearing.new clock.new desk.new signer.new)) }
+        (hall source.old clock.old desk.old signer.old)
+        (hall source.new clock.new desk.new signer.new)) }
     ensures setting { desk.new.setting ≡ desk.old.setting }
     ensures honest { B.honest desk.new.store → B.honest desk.old.store }
     ensures served { ServesEach C.reads B.Standing G.signs G.fault_count count
@@ -112,7 +110,7 @@ pub fn serve_each<L: Hearing, C: Clock, B: Book + Drop, G: Signer>(
     accounts_are_isolated::<G>();
     accounts_disturb_little();
     desks_are_proper(desk);
-    answer_all(hearing, count, clock, desk, signer)
+    answer_all(source, count, clock, desk, signer)
 }
 
 /// Serves so many connections of a listener, as `serve_each`. They are served one after the other, and the next is one
@@ -137,7 +135,7 @@ pub fn serve_connections<
     B: Book + Drop,
     G: Signer,
 >(
-    listening: &mut Listening<'l, A, R>,
+    reactor: &mut Reactor<'l, A, R>,
     count: u32,
     clock: &mut C,
     desk: &mut Desk<'_, B>,
@@ -145,27 +143,27 @@ pub fn serve_connections<
 ) -> Result<(), ClockFailed>
     // then it is waited until the last of them are closed, which takes no other
     ensures heard { OnOk result ((last : _)
-        × IsFinished A.tells (listening.new.closing.items ≡ []) last.acceptor listening.new.acceptor
-        × (places_of listening.new.places ≡ places_of last.places)
-        × AreHeard ⟦<Listening<'l, A, R> as Hearing>⟧.hands ⟦<Listening<'l, A, R> as Hearing>⟧.fails
-        ⟦<Listening<'l, A, R> as Hearing>⟧.stays ⟦<Listening<'l, A, R> as Hearing>⟧.takes_back
+        × IsFinished A.tells (reactor.new.closing.items ≡ []) last.acceptor reactor.new.acceptor
+        × (places_of reactor.new.places ≡ places_of last.places)
+        × AreHeard ⟦<Reactor<'l, A, R> as RequestSource>⟧.hands ⟦<Reactor<'l, A, R> as RequestSource>⟧.fails
+        ⟦<Reactor<'l, A, R> as RequestSource>⟧.stays ⟦<Reactor<'l, A, R> as RequestSource>⟧.takes_back
         ⟦<Limited<'l, R, A::Stream> as Write>⟧.contents C.reads B.Standing G.signs G.fault_count count count
-        (hall listening.old clock.old desk.old signer.old) (hall last clock.new desk.new signer.new)) }
-    ensures stopped { OnErr result (StopsHearing ⟦<Listening<'l, A, R> as Hearing>⟧.hands
-        ⟦<Listening<'l, A, R> as Hearing>⟧.fails ⟦<Listening<'l, A, R> as Hearing>⟧.stays
-        ⟦<Listening<'l, A, R> as Hearing>⟧.takes_back ⟦<Limited<'l, R, A::Stream> as Write>⟧.contents C.reads
+        (hall reactor.old clock.old desk.old signer.old) (hall last clock.new desk.new signer.new)) }
+    ensures stopped { OnErr result (StopsHearing ⟦<Reactor<'l, A, R> as RequestSource>⟧.hands
+        ⟦<Reactor<'l, A, R> as RequestSource>⟧.fails ⟦<Reactor<'l, A, R> as RequestSource>⟧.stays
+        ⟦<Reactor<'l, A, R> as RequestSource>⟧.takes_back ⟦<Limited<'l, R, A::Stream> as Write>⟧.contents C.reads
         B.Standing G.signs G.fault_count count
-        (hall listening.old clock.old desk.old signer.old)
-        (hall listening.new clock.new desk.new signer.new)) }
+        (hall reactor.old clock.old desk.old signer.old)
+        (hall reactor.new clock.new desk.new signer.new)) }
     ensures setting { desk.new.setting ≡ desk.old.setting }
     ensures honest { B.honest desk.new.store → B.honest desk.old.store }
     ensures served { ServesEach C.reads B.Standing G.signs G.fault_count count
         (record { clock = clock.old; desk = desk.old; signer = signer.old })
         (record { clock = clock.new; desk = desk.new; signer = signer.new }) result }
 {
-    match serve_each(listening, count, clock, desk, signer) {
+    match serve_each(reactor, count, clock, desk, signer) {
         Ok(()) => {
-            listening.finish();
+            reactor.finish();
             Ok(())
         }
         Err(fault) => Err(fault),

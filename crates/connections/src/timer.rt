@@ -1,6 +1,5 @@
 //! What shows how time goes on.
-ghost use Rattle.std.specs.Prelude.{ℕ, IfOk};
-ghost use Rattle.std.specs.Time.{instant_nanos};
+ghost use Rattle.std.specs.{Prelude.ℕ, Prelude.IfOk, Time.instant_nanos};
 
 use std::io;
 use std::rt::HostRuntime;

@@ -4,9 +4,8 @@ use Rattle.std.proofs.Common.{get_or, refl, sym, ap, ◌∙◌, arith}
 use Rattle.std.specs.Prelude.{Contains, slice_index_or, ◌↔◌, IsTrue, IsNone, IfSome}
 use Rattle.der.specs.ObjectIdentifier.{oid_content, subidentifier_octets}
 use Rattle.tsp.specs.Rules.{AlgorithmValue}
-use Rattle.policy.specs.HashAlgorithms.{value_of}
-use Rattle.policy.specs.declared.hash_algorithm.HashAlgorithm.{HashAlgorithm}
 use Rattle.policy.specs.declared.hash_algorithm.HashAlgorithm.TheVariants.{Sha1, Sha224, Sha256, Sha384, Sha512}
+use Rattle.policy.specs.{HashAlgorithms.value_of, declared.hash_algorithm.HashAlgorithm.HashAlgorithm}
 use Rattle.console.specs.Known.{algorithm, five_algorithms}
 
 pub contains_value : (a : HashAlgorithm) → Contains five_algorithms (algorithm a)

@@ -2,13 +2,11 @@
 use Rattle.std.proofs.Common.{◌≡◌, ℕ, ◌+◌, ◌*◌, ◌/◌, ◌%◌, ◌<◌, List, [], ◌∷◌, length, map, Option, Some, None, Result}
 use Rattle.std.proofs.Common.{Ok, Err, ◌⊎◌, inl, inr, refl, sym, ap, ◌∙◌, arith}
 use Rattle.hex.specs.Hex.{decode_pairs, decode_of, encode_with, encode_lower, digit_or_error, pair_value, value_at}
-use Rattle.hex.specs.Hex.{◌>>=◌}
-use Rattle.hex.specs.declared.error.FromHexError.{FromHexError}
 use Rattle.hex.specs.declared.error.FromHexError.TheVariants.{OutOfMemory}
-use Rattle.console.specs.Fault.{fault_of}
-use Rattle.console.specs.declared.fault.InputFault.TheVariants.{Memory}
-use Rattle.hex.proofs.HexLemmas.{decode_of-even, decode_of-ok}
+use Rattle.hex.specs.{Hex.◌>>=◌, declared.error.FromHexError.FromHexError}
 use Rattle.console.specs.Hexadecimal.{digit_value, halves, lower_digit}
+use Rattle.console.specs.{Fault.fault_of, declared.fault.InputFault.TheVariants.Memory}
+use Rattle.hex.proofs.HexLemmas.{decode_of-even, decode_of-ok}
 
 -- what an `Ok` after a first step shows
 bind_ok : {A B : Type 0} (r : Result A FromHexError) (f : A → Result B FromHexError) (y : B)

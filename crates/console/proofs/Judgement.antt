@@ -1,16 +1,13 @@
 -- Rules that hold of the one request that octets spell, and of the octets.
 use Rattle.std.proofs.Common.{◌≡◌, ℕ, ◌<◌, ◌≤◌, List, length, inl, inr, subst, arith}
 use Rattle.der.specs.Node.{encoding}
-use Rattle.tsp.specs.Request.{RequestValue, Spells}
 use Rattle.tsp.specs.Rejection.{number_of, rejection}
 use Rattle.tsp.specs.Rules.{IsSpelled, HasVersionOne, HasKnownAlgorithm, HasAlgorithmLength, IsFirstFailing}
 use Rattle.tsp.specs.auxiliary.RulesOfOctets.{to_octets, first_of_octets}
-use Rattle.tsp.specs.Tst.{tst_info}
-use Rattle.tsp.specs.declared.rule.Rule.{Rule}
 use Rattle.tsp.specs.declared.rule.Rule.TheVariants.{Spelling, Version, Account, Algorithm, HashLength}
-use Rattle.console.specs.Settings.{SettingsValue}
-use Rattle.console.specs.Known.{five_algorithms}
+use Rattle.tsp.specs.{Request.RequestValue, Request.Spells, Tst.tst_info, declared.rule.Rule.Rule}
 use Rattle.console.specs.Tst.{Holds, HoldsOf, IsReply, tst_of}
+use Rattle.console.specs.{Settings.SettingsValue, Known.five_algorithms}
 
 -- the octets spell the request and no other, and are few enough
 pub record IsOnlyRequest (query : List ℕ) (r : RequestValue) : Type 0 where

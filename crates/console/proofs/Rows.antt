@@ -1,8 +1,7 @@
 -- The definitions, computed on rows from elsewhere.
 use Rattle.std.proofs.Common.{◌≡◌, [], ◌∷◌, ◌++◌, codes, refl}
 use Rattle.der.specs.ObjectIdentifier.{oid_text, decimal}
-use Rattle.console.specs.Hexadecimal.{IsHexadecimal, line}
-use Rattle.console.specs.Known.{algorithm}
+use Rattle.console.specs.{Hexadecimal.IsHexadecimal, Hexadecimal.line, Known.algorithm}
 use Rattle.policy.specs.declared.hash_algorithm.HashAlgorithm.TheVariants.{Sha1, Sha224, Sha256, Sha384, Sha512}
 
 -- no digit spells no octet

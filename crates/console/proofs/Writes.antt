@@ -1,13 +1,9 @@
 -- Writing in steps.
 use Rattle.std.proofs.Common.{◌≡◌, ◌∙◌, Result, Ok, Err, ◌+◌, ◌<◌, ◌≤◌, ℕ, List, [], ◌∷◌, ◌++◌, Option, Some, None}
 use Rattle.std.proofs.Common.{length, min, take, sym, subst, refl, arith, inl, inr}
-use Rattle.std.proofs.KnownBytes.{Appends-trans}
-use Rattle.std.proofs.Math.Seq.{take-append-add, take-length}
-use Rattle.std.proofs.lemmas.List.{append-nil, take-append-le, take_min}
-use Rattle.std.specs.Io.KnownBytes.{Appends, Keeps}
-use Rattle.std.proofs.lemmas.Fmt.{decimal_digit}
-use Rattle.std.specs.Fmt.{decimal, digits}
-use Rattle.std.specs.Prelude.{OnErr, OnOk}
+use Rattle.std.proofs.{KnownBytes.Appends-trans, Math.Seq.take-append-add, Math.Seq.take-length, lemmas.List.append-nil}
+use Rattle.std.proofs.{lemmas.List.take-append-le, lemmas.List.take_min, lemmas.Fmt.decimal_digit}
+use Rattle.std.specs.{Io.KnownBytes.Appends, Io.KnownBytes.Keeps, Fmt.decimal, Fmt.digits, Prelude.OnErr, Prelude.OnOk}
 use Rattle.audit.specs.Failures.{HasFailed}
 use Rattle.console.specs.Writes.{Begins, IsWhole}
 

@@ -1,8 +1,7 @@
 -- Who asks for a token.
 use Rattle.std.proofs.Common.{Bor}
 use Rattle.std.specs.Prelude.{◌≢◌, List, ℕ, Option, Some, None}
-use Rattle.policy.specs.LookUp.{account_of_key, anonymous_account}
-use Rattle.policy.specs.Record.{AccountValue, PolicyValue}
+use Rattle.policy.specs.{LookUp.account_of_key, LookUp.anonymous_account, Record.AccountValue, Record.PolicyValue}
 
 -- the account with the key; without a key the one of those that show none
 abbrev pub account_shown : PolicyValue → Option (Bor (List ℕ)) → Option AccountValue

@@ -1,8 +1,7 @@
 -- What `check` says of a policy file.
 use Rattle.std.specs.Prelude.{◌≡◌, ℕ, List, [], ◌∷◌, ◌++◌, length, Ok}
 use Rattle.std.specs.Fmt.{decimal}
-use Rattle.policy.specs.Meaning.{meaning_of}
-use Rattle.policy.specs.Record.{PolicyValue}
+use Rattle.policy.specs.{Meaning.meaning_of, Record.PolicyValue}
 use Rattle.command_line.specs.declared.words.CheckWords.{CheckWords}
 use Rattle.console.specs.Files.{ReadsText, Source}
 

@@ -6,9 +6,8 @@ use Rattle.cms.specs.Fault as cms
 use Rattle.cms.specs.declared.fault.CmsFault.{CmsFault}
 use Rattle.der.specs.Fault as der
 use Rattle.desk.specs.Fault as desk
-use Rattle.hex.specs.declared.error.FromHexError.{FromHexError}
 use Rattle.hex.specs.declared.error.FromHexError.TheVariants.{InvalidHexCharacter, OddLength, InvalidStringLength}
-use Rattle.hex.specs.declared.error.FromHexError.TheVariants.{OutOfMemory}
+use Rattle.hex.specs.{declared.error.FromHexError.FromHexError, declared.error.FromHexError.TheVariants.OutOfMemory}
 use Rattle.policy.specs.Fault as policy
 use Rattle.policy.specs.declared.fault.PolicyFault.{PolicyFault}
 use Rattle.book.specs.Fault as store
@@ -16,11 +15,10 @@ use Rattle.book.specs.declared.fault.StoreFault.{StoreFault}
 use Rattle.tsp.specs.Fault as tsp
 use Rattle.command_line.specs.declared.refusal.WordsRefusal.{WordsRefusal}
 use Rattle.command_line.specs.declared.refusal.WordsRefusal.TheVariants as refusal
-use Rattle.console.specs.declared.fault.Fault.{Fault}
 use Rattle.console.specs.declared.fault.Fault.TheVariants.{Der, Tsp, Cms, Policy, Store, Desk, Audit, Input}
-use Rattle.console.specs.declared.fault.InputFault.{InputFault}
 use Rattle.console.specs.declared.fault.InputFault.TheVariants.{NotHexadecimal, File, Hold, Unknown, Failed, Address}
 use Rattle.console.specs.declared.fault.InputFault.TheVariants.{Memory, Signer, NotAfter}
+use Rattle.console.specs.{declared.fault.Fault.Fault, declared.fault.InputFault.InputFault}
 
 abbrev pub number_of : InputFault → ℕ
 number_of NotHexadecimal = 1

@@ -1,23 +1,16 @@
 -- Files that are read, as what opens them tells: which octets, in which order, and which fault.
 use Rattle.std.specs.Prelude.{◌≡◌, ◌≢◌, ◌⊎◌, ℕ, ◌+◌, ◌*◌, ◌≤◌, List, [], length, take, Option, Some, None, IfSome}
 use Rattle.std.specs.Prelude.{Result, Ok, Err, String, Vec, string_bytes, IsUtf8}
-use Rattle.std.specs.declared.io.ErrorKind.{ErrorKind}
-use Rattle.std.specs.declared.io.ErrorKind.TheVariants.{OutOfMemory}
+use Rattle.std.specs.{declared.io.ErrorKind.ErrorKind, declared.io.ErrorKind.TheVariants.OutOfMemory}
 use Rattle.cms.specs.Certificate.{CertificateParts, IsAlgorithm, IsCertificate, identity_with}
 use Rattle.cms.specs.Chain.{AreFurtherCertificates, IsFirstFault}
-use Rattle.cms.specs.Grammar.{joined}
-use Rattle.cms.specs.Identity.{IdentityValue}
-use Rattle.cms.specs.declared.fault.CmsFault.{CmsFault}
+use Rattle.cms.specs.{Grammar.joined, Identity.IdentityValue, declared.fault.CmsFault.CmsFault}
 use Rattle.cms.specs.declared.fault.CmsFault.TheVariants as cms
-use Rattle.policy.specs.Answers.{IsFirstFault as IsFirstPolicyFault}
-use Rattle.policy.specs.Meaning.{meaning_of}
-use Rattle.policy.specs.View.{policy_view}
-use Rattle.policy.specs.declared.fault.PolicyFault.{PolicyFault}
-use Rattle.policy.specs.declared.policy.Policy.{Policy as PolicyRead}
-use Rattle.console.specs.declared.fault.Fault.{Fault}
+use Rattle.policy.specs.{Answers.IsFirstFault as IsFirstPolicyFault, Meaning.meaning_of, View.policy_view}
+use Rattle.policy.specs.{declared.fault.PolicyFault.PolicyFault, declared.policy.Policy.Policy as PolicyRead}
 use Rattle.console.specs.declared.fault.Fault.TheVariants.{Cms, Input, Policy}
-use Rattle.console.specs.declared.fault.InputFault.{InputFault}
 use Rattle.console.specs.declared.fault.InputFault.TheVariants.{File, Memory}
+use Rattle.console.specs.{declared.fault.Fault.Fault, declared.fault.InputFault.InputFault}
 
 -- So many octets of each file decide how it is read: one more than a certificate or an algorithm may have; and of a
 -- chain two certificates, one value more of the most contents that a value has, and an octet behind that.

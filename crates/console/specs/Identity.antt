@@ -1,8 +1,7 @@
 -- Whose certificate tokens name, as files tell.
 use Rattle.std.specs.Prelude.{◌≡◌, ℕ, ◌≤◌, List, length}
 use Rattle.cms.specs.Certificate.{CertificateParts, IsCertificate, identity_with}
-use Rattle.cms.specs.Chain.{AreFurtherCertificates}
-use Rattle.cms.specs.Identity.{IdentityValue}
+use Rattle.cms.specs.{Chain.AreFurtherCertificates, Identity.IdentityValue}
 
 -- of some certificate, and of the further ones of some chain
 pub record IsIdentity (identity : IdentityValue) : Type 0 where

@@ -1,8 +1,7 @@
 -- The hash algorithms that are known without a policy file: those whose lengths a policy file may not change.
 use Rattle.std.specs.Prelude.{List, [], ◌∷◌}
-use Rattle.policy.specs.HashAlgorithms.{value_of}
-use Rattle.policy.specs.declared.hash_algorithm.HashAlgorithm.{HashAlgorithm}
 use Rattle.policy.specs.declared.hash_algorithm.HashAlgorithm.TheVariants.{Sha1, Sha224, Sha256, Sha384, Sha512}
+use Rattle.policy.specs.{HashAlgorithms.value_of, declared.hash_algorithm.HashAlgorithm.HashAlgorithm}
 use Rattle.tsp.specs.Rules.{AlgorithmValue}
 
 abbrev pub algorithm : HashAlgorithm → AlgorithmValue

@@ -1,24 +1,19 @@
 -- The reply to a request where no account, policy file or clock is asked: the TSTInfo of the request, or the rejection
 -- by the first rule that fails (RFC 3161 2.4.2).
 use Rattle.std.specs.Prelude.{◌≡◌, ℕ, ◌⊎◌, List, Option, None, IfSome, unwrap_or}
-use Rattle.der.specs.Node.{encoding, IsLawful}
-use Rattle.der.specs.declared.fault.DerFault.TheVariants.{BadValue}
+use Rattle.der.specs.{Node.encoding, Node.IsLawful, declared.fault.DerFault.TheVariants.BadValue}
 use Rattle.gentime.specs.GenTime.{round_down}
-use Rattle.tsp.specs.Request.{RequestValue, Spells}
-use Rattle.tsp.specs.Rejection.{rejection}
 use Rattle.tsp.specs.Rules.{HoldsOfOctets, HasVersionOne, HasKnownAlgorithm, HasAlgorithmLength, IsFirstFailing}
 use Rattle.tsp.specs.Tst.{TstValue, IsTst, IsTsaName, tst_info}
-use Rattle.tsp.specs.declared.fault.TspFault.TheVariants as tsp
-use Rattle.tsp.specs.declared.rule.Rule.{Rule}
 use Rattle.tsp.specs.declared.rule.Rule.TheVariants.{Spelling, Version, Account, Algorithm, HashLength, Policy}
 use Rattle.tsp.specs.declared.rule.Rule.TheVariants.{PolicyAlgorithm, Extensions, Certificate, Clock, Quota, System}
+use Rattle.tsp.specs.{Request.RequestValue, Request.Spells, Rejection.rejection, declared.rule.Rule.Rule}
+use Rattle.tsp.specs.declared.fault.TspFault.TheVariants as tsp
 use Rattle.command_line.specs.declared.words.TstWords.{TstWords}
 use Rattle.console.specs.Hexadecimal.{IsHexadecimal, line}
-use Rattle.console.specs.Known.{five_algorithms}
-use Rattle.console.specs.Settings.{SettingsValue, States}
-use Rattle.console.specs.declared.fault.Fault.{Fault}
 use Rattle.console.specs.declared.fault.Fault.TheVariants.{Der, Tsp, Input}
 use Rattle.console.specs.declared.fault.InputFault.TheVariants.{Failed, Memory, NotHexadecimal}
+use Rattle.console.specs.{Known.five_algorithms, Settings.SettingsValue, Settings.States, declared.fault.Fault.Fault}
 
 -- the TSTInfo of a request: its policy is the request's where it states one, its genTime the moment rounded down, and
 -- it names no authority

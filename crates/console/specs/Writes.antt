@@ -1,6 +1,5 @@
 -- What a write that failed leaves, and why it wrote less.
-use Rattle.std.specs.Prelude.{◌⊎◌, ℕ, List, Option, take}
-use Rattle.std.specs.Io.KnownBytes.{Appends}
+use Rattle.std.specs.{Prelude.◌⊎◌, Prelude.ℕ, Prelude.List, Prelude.Option, Prelude.take, Io.KnownBytes.Appends}
 use Rattle.audit.specs.Failures.{HasFailed}
 
 -- A beginning of the text was written, maybe none of it, maybe the whole; where the writer tells its octets.

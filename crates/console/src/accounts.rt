@@ -1,7 +1,6 @@
 //! Who asks.
 ghost use Rattle.std.specs.Prelude.{◌≡◌, ◌≢◌, None, Some, option_map, IfOk, IfErr, OnOk};
-ghost use Rattle.policy.specs.LookUp.{account_named};
-ghost use Rattle.policy.specs.View.{account_view, policy_view};
+ghost use Rattle.policy.specs.{LookUp.account_named, View.account_view, View.policy_view};
 ghost use Rattle.console.specs.Accounts.{IsKnown, account_shown};
 
 use crate::fault::InputFault;

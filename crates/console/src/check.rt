@@ -1,15 +1,11 @@
 //! The word `check`: what a policy file has.
 ghost use Rattle.std.specs.Prelude.{◌≡◌, ◌⊎◌, List, ℕ, Ok, Err, OnOk, IfOk, IfErr, ◌∷◌, [], string_bytes};
-ghost use Rattle.std.specs.Fmt.{decimal};
-ghost use Rattle.std.specs.Io.KnownBytes.{Appends};
+ghost use Rattle.std.specs.{Fmt.decimal, Io.KnownBytes.Appends};
 ghost use Rattle.audit.specs.Failures.{HasFailed};
-ghost use Rattle.policy.specs.Answers.{IsFirstFault};
-ghost use Rattle.policy.specs.Meaning.{meaning_of};
-ghost use Rattle.policy.specs.View.{policy_view};
 ghost use Rattle.policy.specs.declared.fault.PolicyFault.{PolicyFault};
-ghost use Rattle.console.specs.Counts.{Counts, counts_line, line_of_words};
+ghost use Rattle.policy.specs.{Answers.IsFirstFault, Meaning.meaning_of, View.policy_view};
 ghost use Rattle.console.specs.Files.{ReadsPolicy, ReadsText, source_of, text_of};
-ghost use Rattle.console.specs.Writes.{Begins};
+ghost use Rattle.console.specs.{Counts.Counts, Counts.counts_line, Counts.line_of_words, Writes.Begins};
 
 use crate::fault::{Fault, InputFault};
 use crate::output::write_text;

@@ -1,9 +1,6 @@
-ghost use Rattle.std.specs.Prelude.{◌≡◌, ◌≤◌, ◌++◌, ◌∷◌, []};
-ghost use Rattle.std.specs.Fmt.{decimal};
+ghost use Rattle.std.specs.{Prelude.◌≡◌, Prelude.◌≤◌, Prelude.◌++◌, Prelude.◌∷◌, Prelude.[], Fmt.decimal};
 ghost use Rattle.console.specs.declared.fault.Fault.TheVariants.{Tsp, Cms, Policy, Store, Input};
-ghost use Rattle.console.specs.declared.fault.InputFault.TheVariants.{Memory};
-ghost use Rattle.console.specs.Fault.{fault_of};
-ghost use Rattle.console.specs.Files.{IsFaultOf};
+ghost use Rattle.console.specs.{declared.fault.InputFault.TheVariants.Memory, Fault.fault_of, Files.IsFaultOf};
 
 use crate::output::write_text;
 use audit::{ExtractFault, Output};

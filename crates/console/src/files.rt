@@ -1,10 +1,9 @@
 //! The files that say whose certificate tokens name, and who signs.
 ghost use Rattle.std.specs.Prelude.{◌≡◌, ◌⊎◌, ◌≤◌, [], length, None, IfOk, IfErr, option_map};
 ghost use Rattle.cms.specs.Certificate.{IsAlgorithm};
-ghost use Rattle.console.specs.Fault.{IsFileFault};
 ghost use Rattle.console.specs.Files.{IsAlgorithmOf, IsKeyOf, Reads, ReadsAs, ReadsChain, ReadsIdentity};
 ghost use Rattle.console.specs.Files.{most_of_algorithm, most_of_key, octets_of, source_of};
-ghost use Rattle.console.specs.Identity.{IsIdentity};
+ghost use Rattle.console.specs.{Fault.IsFileFault, Identity.IsIdentity};
 
 use crate::fault::{Fault, InputFault};
 use crate::source::FileSource;

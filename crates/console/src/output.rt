@@ -1,6 +1,5 @@
 //! Answers and texts on an output.
-ghost use Rattle.std.specs.Prelude.{◌≡◌, OnOk, OnErr, IfErr};
-ghost use Rattle.std.specs.Io.KnownBytes.{Appends};
+ghost use Rattle.std.specs.{Prelude.◌≡◌, Prelude.OnOk, Prelude.OnErr, Prelude.IfErr, Io.KnownBytes.Appends};
 ghost use Rattle.audit.specs.Failures.{HasFailed};
 ghost use Rattle.console.specs.Writes.{Begins};
 

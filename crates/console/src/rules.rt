@@ -1,9 +1,7 @@
 //! The rules that speak of a request and of hash algorithms alone.
 ghost use Rattle.std.specs.Prelude.{◌↔◌, IsTrue, MatchOption};
-ghost use Rattle.tsp.specs.Rules.{HasKnownAlgorithm, HasAlgorithmLength, IsFirstFailing};
-ghost use Rattle.tsp.specs.View.{request_view};
-ghost use Rattle.console.specs.Known.{five_algorithms};
-ghost use Rattle.console.specs.Tst.{HoldsOf};
+ghost use Rattle.tsp.specs.{Rules.HasKnownAlgorithm, Rules.HasAlgorithmLength, Rules.IsFirstFailing, View.request_view};
+ghost use Rattle.console.specs.{Known.five_algorithms, Tst.HoldsOf};
 
 use crate::known::{has_known_length, is_known};
 use der::oids_have_one_content_and_text;

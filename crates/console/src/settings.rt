@@ -1,6 +1,5 @@
 ghost use Rattle.std.specs.Prelude.{◌≡◌, ◌⊎◌, ◌↔◌, ◌^◌, ◌<◌, ◌≤◌, None, Err, IfOk, IfErr};
-ghost use Rattle.der.specs.OidText.{oid_of_text};
-ghost use Rattle.der.specs.declared.fault.DerFault.TheVariants.{BadValue};
+ghost use Rattle.der.specs.{OidText.oid_of_text, declared.fault.DerFault.TheVariants.BadValue};
 ghost use Rattle.gentime.specs.GenTime.{last_moment, round_down};
 
 use crate::fault::{Fault, InputFault};

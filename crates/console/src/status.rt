@@ -1,11 +1,9 @@
 //! The exit status, and what is written where a fault stopped the program or words aren't taken.
 ghost use Rattle.std.specs.Prelude.{◌≡◌, ◌≤◌, ◌⊎◌, String, string_bytes};
-ghost use Rattle.std.specs.Io.KnownBytes.{Appends};
-ghost use Rattle.std.specs.declared.alloc.Global.{Global};
+ghost use Rattle.std.specs.{Io.KnownBytes.Appends, declared.alloc.Global.Global};
 ghost use Rattle.command_line.specs.declared.refusal.WordsRefusal.TheVariants.{Help, Mistake};
 ghost use Rattle.audit.specs.Failures.{HasFailed};
-ghost use Rattle.console.specs.Fault.{IsExplained, fault_line, no_text};
-ghost use Rattle.console.specs.Writes.{Begins, IsWhole};
+ghost use Rattle.console.specs.{Fault.IsExplained, Fault.fault_line, Fault.no_text, Writes.Begins, Writes.IsWhole};
 
 use crate::fault::{Fault, InputFault};
 use crate::output::write_text;

@@ -1,18 +1,12 @@
 //! The word `tst`: the reply to a request where no account, policy file or clock is asked.
 ghost use Rattle.std.specs.Prelude.{◌≡◌, ◌⊎◌, ◌↔◌, List, ℕ, None, Err, unwrap_or, IfSome, IfOk, IfErr, OnOk};
 ghost use Rattle.std.specs.Io.KnownBytes.{Appends};
-ghost use Rattle.der.specs.Node.{encoding};
-ghost use Rattle.der.specs.ObjectIdentifier.{IsOid};
-ghost use Rattle.der.specs.OidText.{oid_of_text};
 ghost use Rattle.der.specs.declared.fault.DerFault.TheVariants.{BadValue};
-ghost use Rattle.tsp.specs.Rejection.{rejection};
-ghost use Rattle.tsp.specs.Request.{IsRequest};
-ghost use Rattle.tsp.specs.Tst.{tst_info};
-ghost use Rattle.tsp.specs.View.{request_view};
+ghost use Rattle.der.specs.{Node.encoding, ObjectIdentifier.IsOid, OidText.oid_of_text};
 ghost use Rattle.tsp.specs.declared.fault.TspFault.TheVariants.{Memory};
-ghost use Rattle.console.specs.Settings.{settings_value};
+ghost use Rattle.tsp.specs.{Rejection.rejection, Request.IsRequest, Tst.tst_info, View.request_view};
 ghost use Rattle.console.specs.Tst.{Answers, HasLawfulAnswers, IsReply, IsReplyFault, IsTstFault, tst_of};
-ghost use Rattle.console.specs.Writes.{Begins};
+ghost use Rattle.console.specs.{Settings.settings_value, Writes.Begins};
 
 use crate::fault::{Fault, InputFault};
 use crate::hexadecimal::{read_hexadecimal, write_hexadecimal};

@@ -3,16 +3,13 @@ use Rattle.std.proofs.Common.{◌≡◌, ◌⊎◌, ◌∙◌, ℕ, ℤ, List, [
 use Rattle.std.proofs.Math.Seq.{take-length}
 use Rattle.std.specs.Io.KnownBytes.{Appends, Keeps}
 use Rattle.policy.specs.Record.{PolicyValue}
-use Rattle.service.specs.Answers.{answer_text, success}
 use Rattle.service.specs.declared.answer.Media.TheVariants.{Csv}
-use Rattle.service.specs.declared.served.Served.{Served}
 use Rattle.service.specs.declared.served.Served.TheVariants.{Closed, Answered, ReadFailed, WriteFailed}
-use Rattle.console.specs.declared.fault.Fault.{Fault}
-use Rattle.console.specs.declared.fault.Fault.TheVariants.{Input}
+use Rattle.service.specs.{Answers.answer_text, Answers.success, declared.served.Served.Served}
 use Rattle.console.specs.declared.fault.InputFault.TheVariants.{Failed}
+use Rattle.console.specs.{declared.fault.Fault.Fault, declared.fault.Fault.TheVariants.Input, Writes.Begins}
 use Rattle.counter.specs.Exchange.{HasEnded, HasStopped, WritesAnswer}
 use Rattle.counter.specs.HttpRequest as known
-use Rattle.console.specs.Writes.{Begins}
 use Rattle.console.proofs.Writes.{appends_nothing, keeps_beginning}
 
 module _ (policy : PolicyValue) (reading : ℤ) (old new before : Option (List ℕ)) where

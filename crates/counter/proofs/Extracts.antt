@@ -1,17 +1,13 @@
 -- What a refused audit leaves, out of what the operation says of it.
 use Rattle.std.proofs.Common.{◌≡◌, ◌⊎◌, ℕ, true, List, Option, Ok, Some, ap, inl, inr}
 use Rattle.std.specs.Io.KnownBytes.{Appends}
-use Rattle.audit.specs.Auditor.{IsAllowed}
-use Rattle.audit.specs.Extract.{lines_text}
+use Rattle.audit.specs.{Auditor.IsAllowed, Extract.lines_text}
 use Rattle.command_line.specs.declared.words.AuditWords.{AuditWords}
 use Rattle.operations.specs.Audits as operation
 use Rattle.operations.specs.declared.audits.AuditFault.{AuditFault}
-use Rattle.policy.specs.LookUp.{account_named}
-use Rattle.policy.specs.Meaning.{meaning_of}
-use Rattle.policy.specs.Record.{AccountValue, PolicyValue}
+use Rattle.policy.specs.{LookUp.account_named, Meaning.meaning_of, Record.AccountValue, Record.PolicyValue}
 use Rattle.book.specs.Rows.{StampRow}
-use Rattle.console.specs.Files.{ReadsText, Source}
-use Rattle.console.specs.Writes.{Begins}
+use Rattle.console.specs.{Files.ReadsText, Files.Source, Writes.Begins}
 use Rattle.counter.specs.Extract.{IsExamining, CutsExtract, LeavesAudit, StopsCheck, nothing, in_extract, in_check}
 use Rattle.counter.specs.Fault.{fault_of_audit}
 

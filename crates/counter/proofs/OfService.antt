@@ -2,15 +2,12 @@
 use Rattle.std.proofs.Common.{ℕ, ℤ, List, [], ◌∷◌, Option, Result, Ok, ap, inl, inr, subst}
 use Rattle.book.specs.declared.standing.Standing.{Ghosts}
 use Rattle.cms.specs.declared.signer.SignerFault.{SignerFault}
-use Rattle.desk.specs.Command.{Command, Stamp, Answer}
-use Rattle.desk.specs.MachineRuns.{Told}
-use Rattle.service.specs.Answers.{AnswerValue}
+use Rattle.desk.specs.{Command.Command, Command.Stamp, Command.Answer, MachineRuns.Told}
 use Rattle.service.specs.Reports.{IsBodyOf, IsRefusedBy, Seen, keeps_back, tells, wants}
 use Rattle.service.specs.Requests.{Report, Step, Extract, OfAccount, OfReaders}
 use Rattle.service.specs.Served.{Turn, Reads, Takes, AreTaken, IsAnswerAlone, refuses, looks, wants_early, IsAnswer}
 use Rattle.service.specs.Served.{plainly, backwards, wants_lines, Writes, Extracts, Ends, Serves}
-use Rattle.service.specs.declared.refusal.Refusal.{Refusal}
-use Rattle.service.specs.declared.served.Served.{Served}
+use Rattle.service.specs.{Answers.AnswerValue, declared.refusal.Refusal.Refusal, declared.served.Served.Served}
 use Rattle.service.specs.declared.served.Served.TheVariants as served
 use Rattle.counter.specs.HttpRequest as known
 use Rattle.counter.specs.HttpRequest.{AsksExtract, IsExchanged, IsAnswerFor, IsJudged, IsRefusalOf, IsTextOf}

@@ -2,10 +2,8 @@
 use Rattle.std.proofs.Common.{◌≡◌, ℕ, List, [], Ok, None}
 use Rattle.command_line.specs.declared.words.DeskWords.{DeskWords}
 use Rattle.console.specs.Files.{ReadsIdentity, ReadsText, Source}
-use Rattle.policy.specs.Meaning.{meaning_of}
-use Rattle.policy.specs.View.{policy_view}
-use Rattle.counter.specs.Files.{ReadsDesk, SignsAs, path_of}
-use Rattle.counter.specs.declared.files.Files.{Files}
+use Rattle.policy.specs.{Meaning.meaning_of, View.policy_view}
+use Rattle.counter.specs.{Files.ReadsDesk, Files.SignsAs, Files.path_of, declared.files.Files.Files}
 
 abbrev pub reads_desk : {S F : Type 0} (source : Source S F) (words : DeskWords) (files : Files)
     → (text : List ℕ) × ReadsText source words.rules.now (Ok text) × (meaning_of text ≡ Ok (policy_view files.policy))

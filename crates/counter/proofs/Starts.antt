@@ -1,10 +1,8 @@
 -- How a start of serving is refused, and how serving ends, as the program tells it.
 use Rattle.std.proofs.Common.{◌≡◌, ◌⊎◌, Result, Ok, Err, inl, inr, refl, subst, sym}
 use Rattle.std.specs.Prelude.{MatchResult, OnOk}
-use Rattle.console.specs.Fault.{IsSettingFault}
-use Rattle.console.specs.declared.fault.Fault.{Fault}
-use Rattle.console.specs.declared.fault.Fault.TheVariants.{Input}
 use Rattle.console.specs.declared.fault.InputFault.TheVariants.{Failed}
+use Rattle.console.specs.{Fault.IsSettingFault, declared.fault.Fault.Fault, declared.fault.Fault.TheVariants.Input}
 use Rattle.counter.specs.Fault.{fault_of_operation}
 use Rattle.operations.specs.DatabaseFaults.{IsServingFault, IsStartingFault, IsUnheard}
 use Rattle.operations.specs.declared.fault.OperationFault.{OperationFault}

@@ -2,28 +2,18 @@
 use Rattle.std.proofs.Common.{◌≡◌, ◌≢◌, ◌⊎◌, ℕ, false, List, Option, refl, subst, inl, inr}
 use Rattle.std.specs.Io.KnownBytes.{Appends}
 use Rattle.clap.specs.Words.{Text}
-use Rattle.command_line.specs.Words.{Asks}
-use Rattle.command_line.specs.declared.words.AuditWords.{AuditWords}
-use Rattle.command_line.specs.declared.words.ContinueWords.{ContinueWords}
-use Rattle.command_line.specs.declared.words.Word.{Word}
-use Rattle.command_line.specs.declared.words.Word.TheVariants.{Audit}
+use Rattle.command_line.specs.{Words.Asks, declared.words.AuditWords.AuditWords, declared.words.Word.Word}
+use Rattle.command_line.specs.{declared.words.ContinueWords.ContinueWords, declared.words.Word.TheVariants.Audit}
 use Rattle.connections.specs.Clock.{Reading}
-use Rattle.console.specs.Fault.{fault_line}
-use Rattle.console.specs.Files.{Source}
-use Rattle.console.specs.Writes.{Begins}
-use Rattle.console.specs.declared.fault.Fault.{Fault}
-use Rattle.console.specs.declared.fault.Fault.TheVariants.{Input}
-use Rattle.console.specs.declared.fault.InputFault.TheVariants.{Failed}
+use Rattle.console.specs.{Fault.fault_line, Files.Source, Writes.Begins, declared.fault.Fault.Fault}
+use Rattle.console.specs.{declared.fault.Fault.TheVariants.Input, declared.fault.InputFault.TheVariants.Failed}
 use Rattle.console.proofs.Writes.{begins_after}
-use Rattle.operations.specs.Audits.{TellsSome, failing_lines}
-use Rattle.operations.specs.Machine.{Machine}
-use Rattle.counter.specs.Does.{Does, IsNoAudit}
+use Rattle.operations.specs.{Audits.TellsSome, Audits.failing_lines, Machine.Machine}
 use Rattle.counter.specs.Extract.{IsExamining, Extracts, LeavesAudit}
-use Rattle.counter.specs.Extract as left
 use Rattle.counter.specs.Stops.{Stops, tells_fault, in_answer, in_extract, in_check, failing}
-use Rattle.counter.specs.Streams.{Extent, begun, streams_of}
-use Rattle.counter.specs.declared.run.Outcome.{Outcome}
-use Rattle.counter.specs.declared.run.Outcome.TheVariants.{Failing}
+use Rattle.counter.specs.{Does.Does, Does.IsNoAudit, Streams.Extent, Streams.begun, Streams.streams_of}
+use Rattle.counter.specs.{declared.run.Outcome.Outcome, declared.run.Outcome.TheVariants.Failing}
+use Rattle.counter.specs.Extract as left
 
 -- a word is `audit` or another
 pub audit_or_not : (word : Word) → ((words : AuditWords) × (word ≡ Audit words)) ⊎ IsNoAudit word

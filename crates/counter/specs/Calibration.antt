@@ -1,13 +1,9 @@
 -- What `calibrate` does: a calibration of the clock is added to the history.
 use Rattle.std.specs.Prelude.{◌≡◌, ℤ, ℕ, Bool, true, false, pos, neg_ℤ, Ok}
-use Rattle.book.specs.History.{CalibrationValue}
-use Rattle.book.specs.Values.{calibration_view}
-use Rattle.book.specs.declared.values.Calibration.{Calibration}
+use Rattle.book.specs.{History.CalibrationValue, Values.calibration_view, declared.values.Calibration.Calibration}
 use Rattle.command_line.specs.declared.words.CalibrateWords.{CalibrateWords}
 use Rattle.connections.specs.Clock.{Reading}
-use Rattle.operations.specs.Addition.{IsAdded}
-use Rattle.operations.specs.Machine.{Machine}
-use Rattle.operations.specs.OverFiles.{IsDoneOver}
+use Rattle.operations.specs.{Addition.IsAdded, Machine.Machine, OverFiles.IsDoneOver}
 use Rattle.operations.specs.declared.addition.Addition.TheVariants as addition
 
 -- a number of microseconds, or minus that number

@@ -2,17 +2,12 @@
 use Rattle.std.specs.Prelude.{◌≡◌, ℕ, List, Result, Ok, Err}
 use Rattle.book.specs.declared.standing.Standing.{Ghosts}
 use Rattle.cms.specs.declared.signer.SignerFault.{SignerFault}
-use Rattle.connections.specs.Clock.{Reading}
-use Rattle.connections.specs.Run.{ServesEach}
-use Rattle.connections.specs.Turns.{State}
-use Rattle.connections.specs.declared.clock.ClockFailed.{ClockFailed}
+use Rattle.connections.specs.{Clock.Reading, Run.ServesEach, Turns.State, declared.clock.ClockFailed.ClockFailed}
 use Rattle.command_line.specs.declared.words.ServeWords.{ServeWords}
 use Rattle.console.specs.Files.{Source}
-use Rattle.operations.specs.Machine.{Machine}
 use Rattle.operations.specs.OverFiles.{IsAny, IsDoneOver, IsReached}
-use Rattle.operations.specs.Signing.{algorithm_of}
-use Rattle.operations.specs.Visits.{IsVisited, Visit}
 use Rattle.operations.specs.declared.fault.OperationFault.{OperationFault}
+use Rattle.operations.specs.{Machine.Machine, SignerSource.algorithm_of, Visits.IsVisited, Visits.Visit}
 use Rattle.operations.specs.declared.fault.OperationFault.TheVariants as operation
 use Rattle.counter.specs.Files.{ReadsDesk, setting_of}
 

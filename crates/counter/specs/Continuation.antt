@@ -1,7 +1,6 @@
 -- Above what `continue` has a history go on, and where.
 use Rattle.std.specs.Prelude.{ℕ, List, Option, option_map}
-use Rattle.command_line.specs.declared.words.ContinueWords.{ContinueWords}
-use Rattle.command_line.specs.declared.words.FloorWords.{FloorWords}
+use Rattle.command_line.specs.{declared.words.ContinueWords.ContinueWords, declared.words.FloorWords.FloorWords}
 use Rattle.operations.specs.declared.void_stamp.Floor.{Floor}
 
 abbrev pub floor_in : FloorWords → Floor

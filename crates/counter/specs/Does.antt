@@ -1,24 +1,15 @@
 -- What the words do, and what they write.
 use Rattle.std.specs.Prelude.{◌≡◌, ℕ, List, [], Option, Some, true, IfSome, Ok}
 use Rattle.connections.specs.Clock.{Reading}
-use Rattle.console.specs.Counts.{Counts}
-use Rattle.console.specs.Files.{Source}
-use Rattle.console.specs.Tst.{Answers}
-use Rattle.counter.specs.Calibration.{Calibrates}
-use Rattle.counter.specs.Connections.{ServesConnections}
-use Rattle.counter.specs.Exchange.{Exchanges}
-use Rattle.counter.specs.Explanation.{Explains}
-use Rattle.counter.specs.Extract.{Extracts}
-use Rattle.counter.specs.Hold.{Holds}
-use Rattle.counter.specs.Reply.{Replies}
+use Rattle.console.specs.{Counts.Counts, Files.Source, Tst.Answers}
 use Rattle.counter.specs.Streams.{Extent, Streams, Writes}
-use Rattle.operations.specs.Machine.{Machine}
-use Rattle.operations.specs.OverFiles.{IsMadeOver, MigratesFound}
-use Rattle.command_line.specs.declared.words.AuditWords.{AuditWords}
+use Rattle.counter.specs.{Calibration.Calibrates, Connections.ServesConnections, Exchange.Exchanges}
+use Rattle.counter.specs.{Explanation.Explains, Extract.Extracts, Hold.Holds, Reply.Replies}
+use Rattle.operations.specs.{Machine.Machine, OverFiles.IsMadeOver, OverFiles.MigratesFound}
 use Rattle.command_line.specs.declared.words.ContinueWords.{ContinueWords}
-use Rattle.command_line.specs.declared.words.Word.{Word}
 use Rattle.command_line.specs.declared.words.Word.TheVariants.{Tst, Check, Init, Migrate, Continue, Calibrate, Hold}
 use Rattle.command_line.specs.declared.words.Word.TheVariants.{Answer, Exchange, Serve, Audit, Explain}
+use Rattle.command_line.specs.{declared.words.AuditWords.AuditWords, declared.words.Word.Word}
 
 -- Each word has a definition of what it does, and of what is written to the output, to that extent. But for `tst`,
 -- `answer` and `exchange` the input isn't read, and where no text is said nothing is written. The files that the words

@@ -3,23 +3,16 @@ use Rattle.std.specs.Prelude.{◌≡◌, ◌⊎◌, pos, ℤ, ℕ, List, [], Opt
 use Rattle.std.specs.Io.KnownBytes.{Consumes, IsAtEnd, Keeps}
 use Rattle.policy.specs.Record.{PolicyValue}
 use Rattle.desk.specs.MachineRuns.{Told}
-use Rattle.service.specs.Answers.{AnswerValue, answer_text}
-use Rattle.service.specs.declared.served.Served.{Served}
 use Rattle.service.specs.declared.served.Served.TheVariants.{Closed, Answered, ReadFailed, WriteFailed}
+use Rattle.service.specs.{Answers.AnswerValue, Answers.answer_text, declared.served.Served.Served, Served.Serves}
 use Rattle.connections.specs.Clock.{Reading}
-use Rattle.operations.specs.Signing.{algorithm_of}
-use Rattle.command_line.specs.declared.words.ExchangeWords.{ExchangeWords}
-use Rattle.console.specs.Files.{Source}
-use Rattle.console.specs.declared.fault.Fault.{Fault}
-use Rattle.console.specs.declared.fault.Fault.TheVariants.{Input}
-use Rattle.console.specs.declared.fault.InputFault.TheVariants.{Failed}
-use Rattle.operations.specs.Machine.{Machine}
 use Rattle.operations.specs.OverFiles.{IsAny, IsDoneOver, IsReached}
-use Rattle.operations.specs.Visits.{IsVisited}
-use Rattle.service.specs.Served.{Serves}
-use Rattle.counter.specs.Files.{ReadsDesk, setting_of}
+use Rattle.operations.specs.{SignerSource.algorithm_of, Machine.Machine, Visits.IsVisited}
+use Rattle.command_line.specs.declared.words.ExchangeWords.{ExchangeWords}
+use Rattle.console.specs.declared.fault.InputFault.TheVariants.{Failed}
+use Rattle.console.specs.{Files.Source, declared.fault.Fault.Fault, declared.fault.Fault.TheVariants.Input}
 use Rattle.counter.specs.Streams.{Extent, WritesSo, whole, begun}
-use Rattle.counter.specs.HttpRequest.{AsksExtract, IsAnswerFor}
+use Rattle.counter.specs.{Files.ReadsDesk, Files.setting_of, HttpRequest.AsksExtract, HttpRequest.IsAnswerFor}
 
 -- The input is at its end, and nothing is written; or it is a request, and what is written is an answer's text; or it
 -- asks for an extract that may be given, of which the database alone tells what is written.

@@ -3,10 +3,8 @@ use Rattle.std.specs.Prelude.{◌≡◌, ℕ, List, Option, Ok}
 use Rattle.command_line.specs.declared.words.ExplainWords.{ExplainWords}
 use Rattle.connections.specs.Clock.{Reading}
 use Rattle.console.specs.Files.{ReadsText, Source}
-use Rattle.operations.specs.Explanations.{IsExplainedOver}
-use Rattle.operations.specs.Machine.{Machine}
-use Rattle.policy.specs.Meaning.{meaning_of}
-use Rattle.policy.specs.Record.{PolicyValue}
+use Rattle.operations.specs.{Explanations.IsExplainedOver, Machine.Machine}
+use Rattle.policy.specs.{Meaning.meaning_of, Record.PolicyValue}
 
 pub record Explains {D X C S F : Type 0} (m : Machine D X C Reading) (files : Source S F) (words : ExplainWords)
     (found : Option (List ℕ)) : Type 0 where

@@ -1,26 +1,18 @@
 -- What `audit` does: an extract of the stamps is written for an auditor, and checked where that is asked.
 use Rattle.std.specs.Prelude.{◌≡◌, ◌⊎◌, ℕ, Bool, true, List, Option, Ok, Some}
 use Rattle.std.specs.Io.KnownBytes.{Appends}
-use Rattle.audit.specs.Auditor.{IsAllowed, IsMet}
-use Rattle.audit.specs.Extract.{lines_text}
-use Rattle.audit.specs.declared.fault.ExtractFault.{ExtractFault}
+use Rattle.audit.specs.{Auditor.IsAllowed, Auditor.IsMet, Extract.lines_text, declared.fault.ExtractFault.ExtractFault}
 use Rattle.audit.specs.declared.fault.ExtractFault.TheVariants as extract
 use Rattle.book.specs.Rows.{StampRow}
 use Rattle.book.specs.declared.fault.StoreFault.TheVariants as store
 use Rattle.command_line.specs.declared.words.AuditWords.{AuditWords}
 use Rattle.connections.specs.Clock.{Reading}
-use Rattle.console.specs.Files.{ReadsText, Source}
-use Rattle.console.specs.Writes.{Begins}
-use Rattle.console.specs.declared.fault.Fault.{Fault}
+use Rattle.console.specs.{Files.ReadsText, Files.Source, Writes.Begins, declared.fault.Fault.Fault}
 use Rattle.console.specs.declared.fault.Fault.TheVariants as program
 use Rattle.operations.specs.Audits.{Failure, failing_lines}
-use Rattle.operations.specs.Machine.{Machine}
-use Rattle.operations.specs.OverFiles.{IsAuditedOver}
-use Rattle.operations.specs.declared.audits.Inquiry.{Inquiry}
-use Rattle.policy.specs.LookUp.{account_named}
-use Rattle.policy.specs.Meaning.{meaning_of}
+use Rattle.operations.specs.{Machine.Machine, OverFiles.IsAuditedOver, declared.audits.Inquiry.Inquiry}
 use Rattle.policy.specs.Record.{AccountValue, PolicyValue}
-use Rattle.policy.specs.View.{account_view, policy_view}
+use Rattle.policy.specs.{LookUp.account_named, Meaning.meaning_of, View.account_view, View.policy_view}
 
 -- stamps are to be checked or judged
 abbrev pub IsExamining : AuditWords → Type 0

@@ -1,15 +1,13 @@
 -- What refusals of the operations over the database are to the program.
 use Rattle.std.specs.Prelude.{◌≡◌, ◌⊎◌}
-use Rattle.console.specs.Fault.{IsSettingFault}
-use Rattle.console.specs.declared.fault.Fault.{Fault}
 use Rattle.console.specs.declared.fault.Fault.TheVariants.{Store, Desk, Audit, Input}
 use Rattle.console.specs.declared.fault.InputFault.TheVariants.{Failed, Address, Signer, NotAfter}
-use Rattle.operations.specs.DatabaseFaults.{IsServingFault}
-use Rattle.operations.specs.declared.audits.AuditFault.{AuditFault}
-use Rattle.operations.specs.declared.audits.AuditFault.TheVariants as auditing
+use Rattle.console.specs.{Fault.IsSettingFault, declared.fault.Fault.Fault}
 use Rattle.operations.specs.declared.fault.ContinuationFault.{ContinuationFault}
-use Rattle.operations.specs.declared.fault.ContinuationFault.TheVariants as continuation
 use Rattle.operations.specs.declared.fault.OperationFault.{OperationFault}
+use Rattle.operations.specs.{DatabaseFaults.IsServingFault, declared.audits.AuditFault.AuditFault}
+use Rattle.operations.specs.declared.audits.AuditFault.TheVariants as auditing
+use Rattle.operations.specs.declared.fault.ContinuationFault.TheVariants as continuation
 use Rattle.operations.specs.declared.fault.OperationFault.TheVariants as operation
 
 -- what a refused audit is to the program

@@ -1,24 +1,16 @@
 -- The files that say by what requests are answered, and who signs.
 use Rattle.std.specs.Prelude.{◌≡◌, ◌≤◌, ℕ, List, [], Option, None, option_map, length, Ok, Err}
 use Rattle.std.proofs.Common.{Bor}
-use Rattle.cms.specs.Certificate.{IsAlgorithm}
-use Rattle.cms.specs.Identity.{IdentityValue}
-use Rattle.cms.specs.declared.fault.CmsFault.{CmsFault}
-use Rattle.command_line.specs.declared.words.DeskWords.{DeskWords}
-use Rattle.command_line.specs.declared.words.SignerWords.{SignerWords}
+use Rattle.cms.specs.{Certificate.IsAlgorithm, Identity.IdentityValue, declared.fault.CmsFault.CmsFault}
+use Rattle.command_line.specs.{declared.words.DeskWords.DeskWords, declared.words.SignerWords.SignerWords}
 use Rattle.command_line.specs.declared.words.SignerWords.TheVariants as words
 use Rattle.console.specs.Files.{IsAlgorithmOf, IsKeyOf, ReadsAs, ReadsIdentity, ReadsPolicy, ReadsText, Source}
 use Rattle.console.specs.Files.{most_of_algorithm, most_of_key}
-use Rattle.console.specs.declared.fault.Fault.{Fault}
-use Rattle.console.specs.declared.fault.Fault.TheVariants.{Cms}
-use Rattle.operations.specs.declared.host.Signing.{Signing}
-use Rattle.operations.specs.declared.host.Signing.TheVariants as signing
-use Rattle.desk.specs.Calls.{in_force_of}
-use Rattle.desk.specs.Command.{Setting}
-use Rattle.operations.specs.Signing.{algorithm_of}
-use Rattle.policy.specs.Meaning.{meaning_of}
-use Rattle.policy.specs.Record.{PolicyValue}
-use Rattle.policy.specs.declared.policy.Policy.{Policy}
+use Rattle.console.specs.{declared.fault.Fault.Fault, declared.fault.Fault.TheVariants.Cms}
+use Rattle.operations.specs.{declared.host.SignerSource.SignerSource, SignerSource.algorithm_of}
+use Rattle.operations.specs.declared.host.SignerSource.TheVariants as signing
+use Rattle.desk.specs.{Calls.in_force_of, Command.Setting}
+use Rattle.policy.specs.{Meaning.meaning_of, Record.PolicyValue, declared.policy.Policy.Policy}
 
 -- the path of a file, where one is named
 abbrev pub path_of : Option (Bor (List ℕ)) → Option (List ℕ)
@@ -27,7 +19,7 @@ path_of path = option_map (λ path. path.now) path
 module _ {S F : Type 0} (files : Source S F) where
   -- The stand-in signs by a key of 1 to 256 octets, which the file holds. A key holder is asked at the address that the
   -- words tell, and its AlgorithmIdentifier, of at most 256 octets, is the file's.
-  abbrev pub SignsAs : SignerWords → Signing → Type 0
+  abbrev pub SignsAs : SignerWords → SignerSource → Type 0
   SignsAs (words.Key path) (signing.Keyed signer) =
       ReadsAs files path.now most_of_key IsKeyOf (Ok signer) × (1 ≤ length signer) × (length signer ≤ 256)
   SignsAs (words.Key path) (signing.Session at algorithm) = ⊥
@@ -48,7 +40,7 @@ module _ {S F : Type 0} (files : Source S F) where
     pub identity : IdentityValue
     pub identity_read : ReadsIdentity files words.certificate.now (path_of words.chain) (Ok identity)
     pub alone : words.chain ≡ None → identity.chain ≡ []
-    pub signing : Signing
+    pub signing : SignerSource
     pub signs : SignsAs words.signer signing
 
   -- how the file of who signs is refused
@@ -67,7 +59,7 @@ module _ {S F : Type 0} (files : Source S F) where
         → ReadsIdentity files words.certificate.now (path_of words.chain) (Ok identity)
         → RefusesSigner words.signer fault → RefusesFiles words fault
     of_algorithm : (policy : Policy) → ReadsPolicy files words.rules.now (Ok policy) → (identity : IdentityValue)
-        → ReadsIdentity files words.certificate.now (path_of words.chain) (Ok identity) → (signing : Signing)
+        → ReadsIdentity files words.certificate.now (path_of words.chain) (Ok identity) → (signing : SignerSource)
         → SignsAs words.signer signing → (refusal : CmsFault) → fault ≡ Cms refusal → RefusesFiles words fault
 
 -- the setting of a desk by what they say

@@ -1,14 +1,10 @@
 -- What `hold` does: moments at which no token is given are added to the history.
 use Rattle.std.specs.Prelude.{◌≡◌, ◌<◌, ℕ, pos, Ok}
-use Rattle.book.specs.History.{HoldValue}
-use Rattle.book.specs.Values.{hold_view}
-use Rattle.book.specs.declared.values.Hold.{Hold as HoldRow}
+use Rattle.book.specs.{History.HoldValue, Values.hold_view, declared.values.Hold.Hold as HoldRow}
 use Rattle.command_line.specs.declared.words.HoldWords.{HoldWords}
 use Rattle.connections.specs.Clock.{Reading}
-use Rattle.operations.specs.Addition.{IsAdded}
-use Rattle.operations.specs.Machine.{Machine}
-use Rattle.operations.specs.OverFiles.{IsDoneOver}
 use Rattle.operations.specs.declared.addition.Addition.TheVariants.{Hold}
+use Rattle.operations.specs.{Addition.IsAdded, Machine.Machine, OverFiles.IsDoneOver}
 
 abbrev pub hold_of : HoldWords → HoldValue
 hold_of words = record { from = pos words.from; to = pos words.to }

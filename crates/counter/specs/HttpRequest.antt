@@ -2,24 +2,18 @@
 use Rattle.std.specs.Prelude.{◌≡◌, ◌⊎◌, ℕ, ℤ, List, [], length, take, Option, Ok, Err}
 use Rattle.std.specs.Io.KnownBytes.{Appends, Consumes, IsAtEnd}
 use Rattle.policy.specs.Record.{AccountValue, PolicyValue}
-use Rattle.audit.specs.Auditor.{IsAllowed, ComesWhere}
-use Rattle.audit.specs.declared.fault.ExtractFault.{ExtractFault}
+use Rattle.audit.specs.{Auditor.IsAllowed, Auditor.ComesWhere, declared.fault.ExtractFault.ExtractFault}
 use Rattle.book.specs.History.{CalibrationValue}
 use Rattle.desk.specs.Command.{Command, Stamp, ListAll, Calibrate, Answer}
-use Rattle.service.specs.Accounts.{account_text}
 use Rattle.service.specs.Answers.{AnswerValue, answer_text, answer_to, refusal_answer, success, unavailable}
-use Rattle.service.specs.Refusals.{refusal_of_extract}
 use Rattle.service.specs.Requests.{Report, Step, Look, Extract, Status, OfAccount, OfReaders, IsRequest, IsPart}
-use Rattle.service.specs.Requests.{IsEarly, IsText}
-use Rattle.service.specs.Served.{Turn}
-use Rattle.service.specs.declared.answer.Media.TheVariants as media
 use Rattle.service.specs.declared.answer.Media.TheVariants.{Csv}
-use Rattle.service.specs.declared.refusal.Refusal.{Refusal}
+use Rattle.service.specs.{Accounts.account_text, Refusals.refusal_of_extract, Requests.IsEarly, Requests.IsText}
+use Rattle.service.specs.{Served.Turn, declared.refusal.Refusal.Refusal, declared.served.Served.Served}
+use Rattle.service.specs.declared.answer.Media.TheVariants as media
 use Rattle.service.specs.declared.refusal.Refusal.TheVariants as refusal
-use Rattle.service.specs.declared.served.Served.{Served}
 use Rattle.service.specs.declared.served.Served.TheVariants as served
-use Rattle.operations.specs.Judged.{IsJudgedReply}
-use Rattle.operations.specs.Visits.{Visit}
+use Rattle.operations.specs.{Judged.IsJudgedReply, Visits.Visit}
 
 -- what of the reply to a time-stamp request is certain
 abbrev pub IsJudged : PolicyValue → Command → Answer → Type 0

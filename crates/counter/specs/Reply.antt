@@ -3,22 +3,15 @@ use Rattle.std.specs.Prelude.{◌≡◌, ℕ, pos, List}
 use Rattle.der.specs.Node.{encoding}
 use Rattle.desk.specs.Command as desk
 use Rattle.desk.specs.CallContract.{IsStep, with_signer}
-use Rattle.desk.specs.Command.{Answer, Stamp}
-use Rattle.desk.specs.Findings.{HoldsUnasked}
-use Rattle.desk.specs.declared.reply.Reply.{Reply}
 use Rattle.desk.specs.declared.reply.Reply.TheVariants.{Granted, Rejected}
-use Rattle.tsp.specs.Rejection.{rejection}
-use Rattle.tsp.specs.Rules.{IsFirstFailing}
-use Rattle.tsp.specs.declared.rule.Rule.{Rule}
+use Rattle.desk.specs.{Command.Answer, Command.Stamp, Findings.HoldsUnasked, declared.reply.Reply.Reply}
+use Rattle.tsp.specs.{Rejection.rejection, Rules.IsFirstFailing, declared.rule.Rule.Rule}
 use Rattle.command_line.specs.declared.words.AnswerWords.{AnswerWords}
-use Rattle.console.specs.Accounts.{IsKnown, account_shown}
-use Rattle.console.specs.Files.{Source}
 use Rattle.console.specs.Hexadecimal.{IsHexadecimal, line}
+use Rattle.console.specs.{Accounts.IsKnown, Accounts.account_shown, Files.Source}
 use Rattle.connections.specs.Clock.{Reading}
-use Rattle.operations.specs.Machine.{Machine}
 use Rattle.operations.specs.OverFiles.{IsAny, IsDoneOver, IsReached}
-use Rattle.operations.specs.Signing.{algorithm_of}
-use Rattle.operations.specs.Visits.{IsVisited}
+use Rattle.operations.specs.{Machine.Machine, SignerSource.algorithm_of, Visits.IsVisited}
 use Rattle.counter.specs.Files.{ReadsDesk, setting_of}
 
 -- the octets of a reply

@@ -2,25 +2,17 @@
 use Rattle.std.specs.Prelude.{◌≡◌, ◌⊎◌, true, false, ℕ, List, Option, ◌++◌}
 use Rattle.std.specs.Io.KnownBytes.{Appends}
 use Rattle.clap.specs.Words.{Text}
-use Rattle.audit.specs.Auditor.{IsMet}
-use Rattle.audit.specs.declared.fault.ExtractFault.{ExtractFault}
-use Rattle.command_line.specs.Words.{Asks, AsksHelp}
-use Rattle.command_line.specs.declared.words.AuditWords.{AuditWords}
+use Rattle.audit.specs.{Auditor.IsMet, declared.fault.ExtractFault.ExtractFault}
 use Rattle.command_line.specs.declared.words.ContinueWords.{ContinueWords}
-use Rattle.command_line.specs.declared.words.Word.{Word}
-use Rattle.command_line.specs.declared.words.Word.TheVariants.{Audit}
+use Rattle.command_line.specs.{Words.Asks, Words.AsksHelp, declared.words.AuditWords.AuditWords}
+use Rattle.command_line.specs.{declared.words.Word.Word, declared.words.Word.TheVariants.Audit}
 use Rattle.connections.specs.Clock.{Reading}
-use Rattle.console.specs.Fault.{fault_line}
-use Rattle.console.specs.Files.{Source}
-use Rattle.console.specs.Writes.{Begins}
-use Rattle.console.specs.declared.fault.Fault.{Fault}
-use Rattle.console.specs.declared.fault.Fault.TheVariants as program
 use Rattle.console.specs.declared.fault.InputFault.TheVariants.{Failed}
-use Rattle.counter.specs.Does.{Does}
+use Rattle.console.specs.{Fault.fault_line, Files.Source, Writes.Begins, declared.fault.Fault.Fault}
+use Rattle.console.specs.declared.fault.Fault.TheVariants as program
 use Rattle.counter.specs.Extract.{IsExamining, CutsExtract, Extracts, StopsCheck}
-use Rattle.counter.specs.Streams.{Streams, begun, whole}
-use Rattle.operations.specs.Audits.{Failure, TellsSome, failing_lines}
-use Rattle.operations.specs.Machine.{Machine}
+use Rattle.counter.specs.{Does.Does, Streams.Streams, Streams.begun, Streams.whole}
+use Rattle.operations.specs.{Audits.Failure, Audits.TellsSome, Audits.failing_lines, Machine.Machine}
 
 -- A fault stopped it, whose line is told on standard error, or a beginning of that line; or stamps fail their check.
 pub data Stops {D X C S F O : Type 0} (m : Machine D X C Reading) (IsContinued : ContinueWords → Type 0)

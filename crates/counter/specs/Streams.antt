@@ -1,6 +1,5 @@
 -- The streams of a process.
-use Rattle.std.specs.Prelude.{ℕ, List, Option}
-use Rattle.std.specs.Io.KnownBytes.{Appends}
+use Rattle.std.specs.{Prelude.ℕ, Prelude.List, Prelude.Option, Io.KnownBytes.Appends}
 use Rattle.console.specs.Writes.{Begins}
 
 -- how much is written of what is to be: all of it, or a beginning, as a stream failed

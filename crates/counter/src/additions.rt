@@ -3,8 +3,7 @@ ghost use Rattle.std.specs.Prelude.{◌≡◌, ◌<◌, ◌≤◌, Err, IfOk, If
 ghost use Rattle.book.specs.Values.{calibration_view, hold_view};
 ghost use Rattle.console.specs.Fault.{IsStoreFault};
 ghost use Rattle.operations.specs.Machine.{machine_of};
-ghost use Rattle.counter.specs.Calibration.{Calibrates, calibration_of};
-ghost use Rattle.counter.specs.Hold.{Holds, hold_of};
+ghost use Rattle.counter.specs.{Calibration.Calibrates, Calibration.calibration_of, Hold.Holds, Hold.hold_of};
 
 use book::{Calibration, Hold};
 use cms::Signer;

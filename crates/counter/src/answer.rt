@@ -1,8 +1,7 @@
 //! The word `answer`.
 ghost use Rattle.std.specs.Prelude.{◌≡◌, IfOk, IfSome};
 ghost use Rattle.operations.specs.Machine.{machine_of};
-ghost use Rattle.console.specs.Files.{source_of};
-ghost use Rattle.console.specs.Hexadecimal.{line};
+ghost use Rattle.console.specs.{Files.source_of, Hexadecimal.line};
 ghost use Rattle.counter.specs.Reply.{Replies, octets_of};
 
 use crate::fault::answer_of;

@@ -1,11 +1,8 @@
 //! The word `continue`.
 ghost use Rattle.std.specs.Prelude.{◌≡◌, IfErr, OnOk};
-ghost use Rattle.operations.specs.Continuation.{HasBegun};
-ghost use Rattle.operations.specs.DatabaseFaults.{IsOpeningFault};
-ghost use Rattle.operations.specs.Machine.{image_at};
 ghost use Rattle.operations.specs.OverFiles.{IsContinuedOver, IsFreeAt, IsRefusedBy};
-ghost use Rattle.counter.specs.Continuation.{floor_of};
-ghost use Rattle.counter.specs.Fault.{fault_of_continuation};
+ghost use Rattle.operations.specs.{Continuation.HasBegun, DatabaseFaults.IsOpeningFault, Machine.image_at};
+ghost use Rattle.counter.specs.{Continuation.floor_of, Fault.fault_of_continuation};
 
 use crate::fault::fault_of_continuation;
 use command_line::ContinueWords;

@@ -1,10 +1,9 @@
 //! The word `exchange`.
-ghost use Rattle.std.specs.Prelude.{◌≡◌, ◌⊎◌, OnOk, IfErr};
-ghost use Rattle.std.specs.Io.KnownBytes.{Keeps};
+ghost use Rattle.std.specs.{Prelude.◌≡◌, Prelude.◌⊎◌, Prelude.OnOk, Prelude.IfErr, Io.KnownBytes.Keeps};
 ghost use Rattle.console.specs.Files.{source_of};
 ghost use Rattle.counter.specs.Exchange.{Exchanges, HasEnded, HasStopped};
-ghost use Rattle.operations.specs.Machine.{machine_of};
 ghost use Rattle.counter.specs.Streams.{begun, whole};
+ghost use Rattle.operations.specs.Machine.{machine_of};
 
 use crate::events::octets_at;
 use crate::fault::fault_of;

@@ -1,8 +1,7 @@
 //! The word `explain`.
 ghost use Rattle.std.specs.Prelude.{◌≡◌, ◌⊎◌, ℕ, List, None, Some, Err, IfErr, IfOk, OnOk};
 ghost use Rattle.std.specs.Io.KnownBytes.{Appends};
-ghost use Rattle.console.specs.Files.{source_of};
-ghost use Rattle.console.specs.Writes.{Begins};
+ghost use Rattle.console.specs.{Files.source_of, Writes.Begins};
 ghost use Rattle.counter.specs.Explanation.{Explains};
 ghost use Rattle.operations.specs.Machine.{machine_of};
 

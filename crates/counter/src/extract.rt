@@ -2,8 +2,7 @@
 ghost use Rattle.std.specs.Prelude.{◌≡◌, true, false, IfOk, IfErr};
 ghost use Rattle.std.specs.Io.KnownBytes.{Appends};
 ghost use Rattle.console.specs.Files.{source_of};
-ghost use Rattle.operations.specs.Audits.{TellsSome};
-ghost use Rattle.operations.specs.Machine.{machine_of};
+ghost use Rattle.operations.specs.{Audits.TellsSome, Machine.machine_of};
 ghost use Rattle.counter.specs.Extract.{IsExamining, Extracts, LeavesAudit};
 
 use crate::fault::agreement_of;

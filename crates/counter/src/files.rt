@@ -1,16 +1,15 @@
 //! The files that say by what requests are answered, and who signs.
 ghost use Rattle.std.specs.Prelude.{◌≡◌, List, ℕ, [], Ok, None, IfOk, IfErr};
-ghost use Rattle.policy.specs.Meaning.{meaning_of};
-ghost use Rattle.policy.specs.View.{policy_view};
+ghost use Rattle.policy.specs.{Meaning.meaning_of, View.policy_view};
 ghost use Rattle.console.specs.Fault.{IsFileFault, IsSettingFault};
 ghost use Rattle.console.specs.Files.{ReadsIdentity, ReadsText, source_of};
-ghost use Rattle.operations.specs.Signing.{algorithm_of};
+ghost use Rattle.operations.specs.SignerSource.{algorithm_of};
 ghost use Rattle.counter.specs.Files.{RefusesFiles, RefusesSigner, SignsAs, path_of};
 
 use cms::{Algorithm, Identity};
 use command_line::{DeskWords, SignerWords};
 use console::{Fault, FileSource, read_algorithm, read_identity, read_policy, read_signer};
-use operations::Signing;
+use operations::SignerSource;
 use policy::Policy;
 
 /// What the files say.
@@ -21,7 +20,7 @@ pub struct Files<'a> {
     /// Whose certificate the tokens name.
     pub identity: Identity,
     /// Who signs.
-    pub signing: Signing<'a>,
+    pub signing: SignerSource<'a>,
     /// The algorithm that the tokens name, the signer's.
     pub algorithm: Algorithm,
 }
@@ -63,19 +62,19 @@ pub fn read_files<'a, S: FileSource + AllocGlobal>(
 fn read_signing<'a, S: FileSource + AllocGlobal>(
     rt: &S,
     words: SignerWords<'a>,
-) -> Result<Signing<'a>, Fault>
+) -> Result<SignerSource<'a>, Fault>
     ensures found { IfOk result (SignsAs (source_of S.opens S.refuses S.File.remaining rt.now) words.entry) }
     ensures refused { IfErr result (RefusesSigner (source_of S.opens S.refuses S.File.remaining rt.now) words.entry) }
     ensures faults { IfErr result IsFileFault }
 {
     match words {
-        SignerWords::Key(path) => Ok(Signing::Keyed(read_signer(rt, path)?)),
+        SignerWords::Key(path) => Ok(SignerSource::Keyed(read_signer(rt, path)?)),
         SignerWords::Session {
             address,
             algorithm: path,
         } => {
             let algorithm = read_algorithm(rt, path)?;
-            Ok(Signing::Session { address, algorithm })
+            Ok(SignerSource::Session { address, algorithm })
         }
     }
 }

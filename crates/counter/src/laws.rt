@@ -1,9 +1,7 @@
 //! What holds of what the program does.
 ghost use Rattle.command_line.specs.declared.words.ContinueWords.{ContinueWords};
 ghost use Rattle.console.specs.Files.{source_of};
-ghost use Rattle.counter.specs.Continuation.{IsContinuedBy};
-ghost use Rattle.counter.specs.Does.{Does};
-ghost use Rattle.counter.specs.Streams.{Extent, Streams};
+ghost use Rattle.counter.specs.{Continuation.IsContinuedBy, Does.Does, Streams.Extent, Streams.Streams};
 ghost use Rattle.operations.specs.Machine.{image_at, machine_of};
 ghost use Rattle.operations.specs.OverFiles.{IsContinuedOver, IsFreeAt, TakesJourneys};
 

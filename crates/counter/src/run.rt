@@ -1,18 +1,12 @@
 ghost use Rattle.std.specs.Prelude.{◌≡◌, ◌≢◌, ◌≤◌, ◌⊎◌, List, ℕ, true, false, Ok, Err, OnOk, IfSome, IfErr, IfOk};
 ghost use Rattle.std.specs.Io.KnownBytes.{Appends};
 ghost use Rattle.command_line.specs.Words.{AreRefused, AreTaken, texts_of};
-ghost use Rattle.console.specs.Fault.{fault_line, no_text};
-ghost use Rattle.console.specs.Files.{source_of};
-ghost use Rattle.console.specs.Writes.{Begins};
-ghost use Rattle.counter.specs.Continuation.{IsContinuedBy};
-ghost use Rattle.counter.specs.Does.{Does, IsNoAudit};
+ghost use Rattle.console.specs.{Fault.fault_line, Fault.no_text, Files.source_of, Writes.Begins};
 ghost use Rattle.counter.specs.Extract.{IsExamining, Extracts, LeavesAudit};
-ghost use Rattle.counter.specs.Reply.{Replies};
-ghost use Rattle.counter.specs.Stops.{Exits};
 ghost use Rattle.counter.specs.Streams.{begun, streams_of, whole};
-ghost use Rattle.operations.specs.Audits.{TellsSome};
-ghost use Rattle.operations.specs.Machine.{image_at, machine_of};
+ghost use Rattle.counter.specs.{Continuation.IsContinuedBy, Does.Does, Does.IsNoAudit, Reply.Replies, Stops.Exits};
 ghost use Rattle.operations.specs.OverFiles.{IsContinuedOver, IsFreeAt};
+ghost use Rattle.operations.specs.{Audits.TellsSome, Machine.image_at, Machine.machine_of};
 
 use crate::additions::{calibrate, hold};
 use crate::answer::{answer, octets_of};

@@ -3,8 +3,7 @@ ghost use Rattle.std.specs.Prelude.{◌≡◌, ◌⊎◌, Err, IfErr, OnOk, Ok};
 ghost use Rattle.console.specs.Files.{source_of};
 ghost use Rattle.counter.specs.Fault.{IsServeFault};
 ghost use Rattle.counter.specs.Connections.{ServesAt, ServesConnections, state_after, state_before};
-ghost use Rattle.operations.specs.DatabaseFaults.{IsServingFault, IsUnheard};
-ghost use Rattle.operations.specs.Machine.{machine_of};
+ghost use Rattle.operations.specs.{DatabaseFaults.IsServingFault, DatabaseFaults.IsUnheard, Machine.machine_of};
 ghost use Rattle.operations.specs.declared.fault.OperationFault.TheVariants as operation;
 
 use crate::events::{octets_at, tell_listening, tell_opening};
@@ -14,7 +13,7 @@ use crate::host::Host;
 use book::Book;
 use cms::Signer;
 use command_line::ServeWords;
-use connections::{Clock, Listening, SystemClock, serve_connections};
+use connections::{Clock, Reactor, SystemClock, serve_connections};
 use console::{Fault, FileSource, InputFault};
 use desk::Settings;
 use operations::{
@@ -65,14 +64,14 @@ impl DeskOperation<(), ()> for Serving<'_> {
     ) -> Result<(), OperationFault> {
         let rt = self.rt;
         let mut clock = SystemClock::new(rt);
-        match Listening::new(rt, rt, listener, self.octets) {
-            Ok(mut listening) => {
+        match Reactor::new(rt, rt, listener, self.octets) {
+            Ok(mut reactor) => {
                 if self.tell {
-                    tell_listening(rt, &listening.acceptor, self.address, self.begun);
+                    tell_listening(rt, &reactor.acceptor, self.address, self.begun);
                 }
                 let SignedDesk { desk, signer } = signed;
                 match serve_connections(
-                    &mut listening,
+                    &mut reactor,
                     self.connections,
                     &mut clock,
                     desk,

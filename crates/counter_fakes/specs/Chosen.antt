@@ -1,8 +1,7 @@
 -- Calls that are chosen to fail.
 use Rattle.std.specs.Prelude.{◌≡◌, ℕ, List, Contains, Result, Err}
 use Rattle.std.specs.Hash.DefaultHasher.{wrapping_add}
-use Rattle.cms.specs.declared.signer.SignerFault.{SignerFault}
-use Rattle.cms.specs.declared.signer.SignerFault.TheVariants.{Failed}
+use Rattle.cms.specs.{declared.signer.SignerFault.SignerFault, declared.signer.SignerFault.TheVariants.Failed}
 use Rattle.counter_fakes.specs.declared.signer.FailingSigner.{FailingSigner}
 
 -- A chosen call fails, and the signer behind isn't asked; any other call is that signer's. Calls are counted from 1.

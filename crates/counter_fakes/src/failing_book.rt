@@ -1,7 +1,5 @@
-ghost use Rattle.std.specs.Prelude.{◌≡◌, ℕ, ◌≤◌, MatchResult};
-ghost use Rattle.std.specs.Hash.DefaultHasher.{wrapping_add};
-ghost use Rattle.book.specs.History.{History};
-ghost use Rattle.book.specs.Stands.{Stands};
+ghost use Rattle.std.specs.{Prelude.◌≡◌, Prelude.ℕ, Prelude.◌≤◌, Prelude.MatchResult, Hash.DefaultHasher.wrapping_add};
+ghost use Rattle.book.specs.{History.History, Stands.Stands};
 
 use book::{
     Book, Calibration, Deposit, Entry, GREATEST_NUMBER, Hold, IdentityRow, Last, Listed, Stamp,

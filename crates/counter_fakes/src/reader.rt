@@ -1,8 +1,6 @@
 ghost use Rattle.std.specs.Prelude.{◌≡◌, IsErr, Contains};
-ghost use Rattle.std.specs.Io.{ReadsAtMost};
-ghost use Rattle.std.specs.Io.KnownBytes.{ReadConsumes};
 ghost use Rattle.std.specs.Io.Take.{take_limit, take_inner, take_remaining};
-ghost use Rattle.std.specs.Hash.DefaultHasher.{wrapping_add};
+ghost use Rattle.std.specs.{Io.ReadsAtMost, Io.KnownBytes.ReadConsumes, Hash.DefaultHasher.wrapping_add};
 
 use std::io::{self, ErrorKind, Read, Take};
 

@@ -1,7 +1,6 @@
 ghost use Rattle.std.specs.Prelude.{◌≡◌, ◌+◌, IfOk, OnErr, IsErr, Contains};
-ghost use Rattle.std.specs.Io.{WritesAtMost};
 ghost use Rattle.std.specs.Io.KnownBytes.{Keeps, WriteAppends};
-ghost use Rattle.std.specs.Hash.DefaultHasher.{wrapping_add};
+ghost use Rattle.std.specs.{Io.WritesAtMost, Hash.DefaultHasher.wrapping_add};
 
 use std::io::{self, ErrorKind, Write};
 

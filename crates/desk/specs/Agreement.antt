@@ -2,12 +2,8 @@
 use Rattle.std.specs.Prelude.{◌≡◌, ℕ, List, filter, Option, Some, None, option_map}
 use Rattle.std.specs.Str.{bytes_eq}
 use Rattle.book.specs.History.{History, CalibrationValue, HoldValue, InstalledValue, stamps, deposits}
-use Rattle.book.specs.History.{holds}
-use Rattle.book.specs.Identities.{latest_identity}
 use Rattle.book.specs.History.{latest_calibration, last_gen_time, greatest_serial, reservation_at, token_of}
-use Rattle.book.specs.Readers.{Viewer}
-use Rattle.book.specs.Rights.{seen_by}
-use Rattle.book.specs.Rows.{DepositRow}
+use Rattle.book.specs.{History.holds, Identities.latest_identity, Readers.Viewer, Rights.seen_by, Rows.DepositRow}
 use Rattle.desk.specs.Command.{Command, Stamp, Begin, Finish, Abandon, Deposit, Show, Token, ListAll, Grant, Revoke}
 use Rattle.desk.specs.Command.{Calibrate, Hold, Succeed}
 

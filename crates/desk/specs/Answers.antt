@@ -1,16 +1,11 @@
 -- The answers of the machine that the program's are.
 use Rattle.std.specs.Prelude.{ℕ, Result, Ok, Err}
 use Rattle.desk.specs.Command as answer
-use Rattle.desk.specs.Command.{Answer}
-use Rattle.book.specs.declared.fault.StoreFault.{StoreFault}
-use Rattle.desk.specs.Calls.{why_of, store_cause}
-use Rattle.desk.specs.Effects.{fault_of}
-use Rattle.desk.specs.Outcome.{Refusal}
-use Rattle.desk.specs.declared.fault.Fault.{Fault}
 use Rattle.desk.specs.declared.refusal.StampRefusal.{StampRefusal}
-use Rattle.desk.specs.declared.reply.Begun.{Begun}
+use Rattle.desk.specs.{Command.Answer, Calls.why_of, Calls.store_cause, Effects.fault_of, Outcome.Refusal}
+use Rattle.desk.specs.{declared.fault.Fault.Fault, declared.reply.Begun.Begun, declared.reply.Reply.Reply}
+use Rattle.book.specs.declared.fault.StoreFault.{StoreFault}
 use Rattle.desk.specs.declared.reply.Begun.TheVariants as begun
-use Rattle.desk.specs.declared.reply.Reply.{Reply}
 use Rattle.desk.specs.declared.reply.Reply.TheVariants as reply
 
 abbrev pub begun_as : Begun → Answer

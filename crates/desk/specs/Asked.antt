@@ -1,22 +1,16 @@
 -- Which command of the machine a command of the program is, and which answer its answer is.
 use Rattle.std.specs.Prelude.{ℕ, List, map}
-use Rattle.policy.specs.Record.{AccountValue}
-use Rattle.policy.specs.View.{account_view}
+use Rattle.policy.specs.{Record.AccountValue, View.account_view}
 use Rattle.decide.specs.View.{account_asked}
-use Rattle.book.specs.Entries.{reader_view}
 use Rattle.book.specs.History.{Entry, Granted, Revoked}
-use Rattle.book.specs.Readers.{Reader}
-use Rattle.book.specs.Values.{calibration_view, hold_view}
+use Rattle.book.specs.{Entries.reader_view, Readers.Reader, Values.calibration_view, Values.hold_view}
 use Rattle.desk.specs.Command as machine
-use Rattle.desk.specs.Answers.{reply_as}
-use Rattle.desk.specs.Calls.{in_force_of}
 use Rattle.desk.specs.Shown.{deposited_as, shown_as, listed_as}
-use Rattle.desk.specs.declared.commands.Command.{Command}
-use Rattle.desk.specs.declared.commands.Command.TheVariants as command
-use Rattle.desk.specs.declared.commands.Answer.{Answer}
-use Rattle.desk.specs.declared.commands.Answer.TheVariants as answer
-use Rattle.desk.specs.declared.rights.Change.{Change}
 use Rattle.desk.specs.declared.rights.Change.TheVariants.{Give, Take}
+use Rattle.desk.specs.{Answers.reply_as, Calls.in_force_of, declared.commands.Command.Command}
+use Rattle.desk.specs.{declared.commands.Answer.Answer, declared.rights.Change.Change}
+use Rattle.desk.specs.declared.commands.Command.TheVariants as command
+use Rattle.desk.specs.declared.commands.Answer.TheVariants as answer
 
 -- the command that gives or takes a right, and the entry that it adds
 abbrev pub right_command : Change → AccountValue → ℕ → Reader → machine.Command

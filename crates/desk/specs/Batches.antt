@@ -3,16 +3,11 @@
 use Rattle.std.specs.Prelude.{◌≡◌, ℕ, ◌⊎◌, ℤ, List, [], ◌∷◌, ◌++◌, map, filter_map, Option, Some, None, Result}
 use Rattle.policy.specs.Record.{AccountValue}
 use Rattle.cms.specs.declared.signer.SignerFault.{SignerFault}
-use Rattle.book.specs.Entries.{with_all}
 use Rattle.book.specs.History.{Entry, Reserved, Sealed, History, ReservationValue, reservations}
-use Rattle.book.specs.Shows.{ShowsSame}
-use Rattle.book.specs.Sound.{IsSound}
-use Rattle.desk.specs.Outcome.{Outcome, faults_after}
+use Rattle.book.specs.{Entries.with_all, Shows.ShowsSame, Sound.IsSound}
 use Rattle.desk.specs.Command.{Setting, Command, Stamp, Answer}
-use Rattle.desk.specs.Effects.{Effect}
-use Rattle.desk.specs.MachineStep.{HasEffect, Moves}
-use Rattle.desk.specs.MachineRuns.{Runs, Told}
-use Rattle.desk.specs.Laws.{Continues}
+use Rattle.desk.specs.{Outcome.Outcome, Outcome.faults_after, Effects.Effect, MachineStep.HasEffect, MachineStep.Moves}
+use Rattle.desk.specs.{MachineRuns.Runs, MachineRuns.Told, Laws.Continues}
 
 -- who asks for a stamp, at which reading of the clock, by which octets
 pub record Question : Type 0 where

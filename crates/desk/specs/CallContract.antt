@@ -1,24 +1,16 @@
 -- A call of the program is a step of the machine: what each call's contract says.
 use Rattle.std.specs.Prelude.{◌≡◌, ℕ, ◌≤◌, ◌⊎◌, true, false, List, [], ◌∷◌, ◌++◌, Option, None, Result, Ok, Err}
-use Rattle.book.specs.declared.standing.Standing.{Ghosts}
-use Rattle.cms.specs.Signer.{count_after}
-use Rattle.cms.specs.declared.signer.SignerFault.{SignerFault}
-use Rattle.cms.specs.declared.signer.SignerFault.TheVariants as signer
 use Rattle.book.specs.History.{Entry, Installed, History, greatest_serial, latest_calibration}
-use Rattle.book.specs.Sound.{IsBackwards, greatest_number}
-use Rattle.book.specs.Stands.{Stands}
-use Rattle.desk.specs.Fit.{IsFit, HasNoneFailed}
+use Rattle.book.specs.{declared.standing.Standing.Ghosts, Sound.IsBackwards, Sound.greatest_number, Stands.Stands}
+use Rattle.cms.specs.{Signer.count_after, declared.signer.SignerFault.SignerFault}
+use Rattle.cms.specs.declared.signer.SignerFault.TheVariants as signer
 use Rattle.desk.specs.Outcome.{Call, Fine, Failed, Outcome, faults_after}
 use Rattle.desk.specs.Command.{InForce, Setting, Command, Stamp, Begin, Abandon, Deposit, Calibrate, Succeed, Answer}
 use Rattle.desk.specs.Command.{Stamped, Rejected, Begun, Kept, Shown, Listed, Done, Numbered}
-use Rattle.desk.specs.Command.{Refused, setting_after}
-use Rattle.desk.specs.declared.fault.Fault.{Fault}
+use Rattle.desk.specs.{Fit.IsFit, Fit.HasNoneFailed, Command.Refused, Command.setting_after, declared.fault.Fault.Fault}
+use Rattle.desk.specs.{Effects.Effect, MachineStep.HasEffect, MachineStep.IsMet, MachineStep.Moves, MachineRuns.after}
+use Rattle.desk.specs.{Promises.KeepsPromises, Succession.installed_by, Succession.IsInForce}
 use Rattle.desk.specs.declared.fault.Fault.TheVariants as fault
-use Rattle.desk.specs.Effects.{Effect}
-use Rattle.desk.specs.MachineStep.{HasEffect, IsMet, Moves}
-use Rattle.desk.specs.MachineRuns.{after}
-use Rattle.desk.specs.Promises.{KeepsPromises}
-use Rattle.desk.specs.Succession.{installed_by, IsInForce}
 
 -- a desk: by what it answers, and its store
 pub record DeskValue (B : Type 0) : Type 0 where

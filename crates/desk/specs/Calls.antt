@@ -1,27 +1,20 @@
 -- What the program's types stand for, and what the parts of a call answer.
 use Rattle.std.specs.Prelude.{◌≡◌, ℕ, min, ℤ, List, [], Option, Some, None, option_map, Result, Ok, Err}
 use Rattle.gentime.specs.GenTime.{last_moment}
-use Rattle.policy.specs.Record.{AccountValue}
-use Rattle.policy.specs.View.{policy_view}
-use Rattle.policy.specs.declared.policy.Policy.{Policy}
+use Rattle.policy.specs.{Record.AccountValue, View.policy_view, declared.policy.Policy.Policy}
 use Rattle.tsp.specs.View.{request_view}
-use Rattle.cms.specs.Identity.{IdentityValue}
-use Rattle.cms.specs.declared.signer.SignerFault.{SignerFault}
+use Rattle.cms.specs.{Identity.IdentityValue, declared.signer.SignerFault.SignerFault}
 use Rattle.cms.specs.declared.signer.SignerFault.TheVariants as signer
 use Rattle.decide.specs.declared.facts.Calibration.{Calibration}
-use Rattle.book.specs.Fault.{IsOfStorage}
-use Rattle.book.specs.declared.fault.StoreFault.{StoreFault}
-use Rattle.book.specs.declared.fault.StoreFault.TheVariants as store
 use Rattle.book.specs.History.{History, CalibrationValue, greatest_serial, count_of_day}
-use Rattle.desk.specs.Facts.{calibration_of, clock_of}
+use Rattle.book.specs.{Fault.IsOfStorage, declared.fault.StoreFault.StoreFault}
+use Rattle.book.specs.declared.fault.StoreFault.TheVariants as store
 use Rattle.desk.specs.Outcome.{Call, Fine, OutOfMemory, Failed, Outcome, Cause, OfMemory, OfStore, OfSigner, all_fine}
-use Rattle.desk.specs.Outcome.{Refusal, ByRule, ByCause}
 use Rattle.desk.specs.Findings.{StampPlan, Finding, Fails, Unanswered, Allowed}
 use Rattle.desk.specs.Command.{InForce, Setting, Answer, Done}
-use Rattle.desk.specs.declared.findings.Planned.{Planned}
-use Rattle.desk.specs.declared.clock_facts.Looked.{Looked}
-use Rattle.desk.specs.declared.settings.Settings.{Settings}
-use Rattle.desk.specs.declared.refusal.StampRefusal.{StampRefusal}
+use Rattle.desk.specs.{Facts.calibration_of, Facts.clock_of, Outcome.Refusal, Outcome.ByRule, Outcome.ByCause}
+use Rattle.desk.specs.{declared.findings.Planned.Planned, declared.clock_facts.Looked.Looked}
+use Rattle.desk.specs.{declared.settings.Settings.Settings, declared.refusal.StampRefusal.StampRefusal}
 use Rattle.desk.specs.declared.refusal.StampRefusal.TheVariants as refusal
 
 -- how a call of the store was answered that is refused so

@@ -3,9 +3,7 @@ use Rattle.std.specs.Prelude.{◌≡◌, ℕ, true, [], drop, None}
 use Rattle.book.specs.Continuation.{is_closed}
 use Rattle.book.specs.History.{History, greatest_serial, last_gen_time, reservations}
 use Rattle.desk.specs.Command.{Command, Finish, Answer, Stamped, Begun, Kept}
-use Rattle.desk.specs.Effects.{Effect}
-use Rattle.desk.specs.MachineRuns.{cut}
-use Rattle.desk.specs.Serials.{given_by}
+use Rattle.desk.specs.{Effects.Effect, MachineRuns.cut, Serials.given_by}
 
 -- no stamp is granted or begun, and no deposit is new
 abbrev pub IsUngranted : Answer → Type 0

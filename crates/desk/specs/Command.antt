@@ -3,9 +3,7 @@ use Rattle.std.specs.Prelude.{ℕ, ℤ, Bool, List, Option}
 use Rattle.policy.specs.Record.{AccountValue, PolicyValue}
 use Rattle.tsp.specs.declared.rule.Rule.{Rule}
 use Rattle.cms.specs.Identity.{IdentityValue}
-use Rattle.book.specs.History.{CalibrationValue, HoldValue}
-use Rattle.book.specs.Readers.{Reader}
-use Rattle.book.specs.Rights.{ListedValue}
+use Rattle.book.specs.{History.CalibrationValue, History.HoldValue, Readers.Reader, Rights.ListedValue}
 use Rattle.desk.specs.declared.fault.Fault.{Fault}
 
 -- what is in force: the identity whose key signs, and the octets of the signer's AlgorithmIdentifier

@@ -1,12 +1,8 @@
 -- A commit of entries, of which there may be none.
 use Rattle.std.specs.Prelude.{◌≡◌, List, [], Result, Ok, Err}
 use Rattle.book.specs.declared.fault.StoreFault.{StoreFault}
-use Rattle.book.specs.declared.standing.Standing.{Ghosts}
-use Rattle.book.specs.Entries.{Appends}
-use Rattle.book.specs.Fault.{IsOfStorage}
-use Rattle.book.specs.History.{Entry}
-use Rattle.desk.specs.Calls.{call_of}
-use Rattle.desk.specs.Outcome.{Call, Fine}
+use Rattle.book.specs.{declared.standing.Standing.Ghosts, Entries.Appends, Fault.IsOfStorage, History.Entry}
+use Rattle.desk.specs.{Calls.call_of, Outcome.Call, Outcome.Fine}
 
 -- how it was answered
 abbrev pub call_for : {A : Type 0} → Result A StoreFault → Call

@@ -2,15 +2,12 @@
 -- TSTInfo, which names nobody else than the identity of its serial number, and each deposit is what its stamp was given
 -- for (RFC 3161 2.4.2).
 use Rattle.std.specs.Prelude.{◌≡◌, ℕ, Bool, List, Option, Some}
-use Rattle.der.specs.Node.{Node}
-use Rattle.der.specs.ObjectIdentifier.{oid_content}
+use Rattle.der.specs.{Node.Node, ObjectIdentifier.oid_content}
 use Rattle.sha2.specs.Sha256.{sha256}
-use Rattle.tsp.specs.Request.{RequestValue, Spells}
-use Rattle.tsp.specs.Tst.{SpellsTst, answer}
+use Rattle.tsp.specs.{Request.RequestValue, Request.Spells, Tst.SpellsTst, Tst.answer}
 use Rattle.book.specs.History.{Entry, Reserved, Sealed, Deposited, Calibrated, Held, Granted, Revoked, Installed}
 use Rattle.book.specs.History.{History, ReservationValue, reservation_at}
-use Rattle.book.specs.Rows.{DepositRow}
-use Rattle.book.specs.Sound.{Along, IsSound}
+use Rattle.book.specs.{Rows.DepositRow, Sound.Along, Sound.IsSound}
 use Rattle.desk.specs.Succession.{NamesLatest}
 
 -- A reservation is for the request that its octets spell: with its algorithm and digest, and the TSTInfo that answers

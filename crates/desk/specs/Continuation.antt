@@ -2,11 +2,9 @@
 use Rattle.std.specs.Prelude.{◌≡◌, Option, Some, None}
 use Rattle.der.specs.Node.{Node}
 use Rattle.cms.specs.Certificate.{IsSubject}
-use Rattle.tsp.specs.Request.{RequestValue, Spells}
-use Rattle.tsp.specs.Tst.{SpellsTst, TstValue, answer}
-use Rattle.book.specs.Continuation.{Floor, last_reservation, reserved_as}
-use Rattle.book.specs.History.{History, InstalledValue, ReservationValue}
-use Rattle.book.specs.Identities.{identity_at_reservation}
+use Rattle.tsp.specs.{Request.RequestValue, Request.Spells, Tst.SpellsTst, Tst.TstValue, Tst.answer}
+use Rattle.book.specs.{Continuation.Floor, Continuation.last_reservation, Continuation.reserved_as, History.History}
+use Rattle.book.specs.{History.InstalledValue, History.ReservationValue, Identities.identity_at_reservation}
 use Rattle.desk.specs.Content.{IsForRequest}
 
 -- nobody is named, or the subject of this identity

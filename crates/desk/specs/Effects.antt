@@ -1,30 +1,19 @@
 -- What a command adds to the history, what it has signed, and what it answers.
 use Rattle.std.specs.Prelude.{ℕ, ◌+◌, nat_le, Bool, true, false, if◌then◌else◌, List, [], ◌∷◌, map, length}
 use Rattle.std.specs.Prelude.{Option, Some, None, Result, Ok, Err}
-use Rattle.std.specs.Option.{is_some}
-use Rattle.std.specs.Str.{bytes_eq}
-use Rattle.policy.specs.Record.{AccountValue, PolicyValue}
-use Rattle.policy.specs.Kinds.{is_among}
-use Rattle.policy.specs.LookUp.{group_named}
-use Rattle.tsp.specs.declared.rule.Rule.{Rule}
-use Rattle.tsp.specs.declared.rule.Rule.TheVariants.{System}
-use Rattle.cms.specs.SignedData.{attribute_text}
-use Rattle.cms.specs.declared.signer.SignerFault.{SignerFault}
+use Rattle.std.specs.{Option.is_some, Str.bytes_eq}
+use Rattle.policy.specs.{Record.AccountValue, Record.PolicyValue, Kinds.is_among, LookUp.group_named}
+use Rattle.tsp.specs.{declared.rule.Rule.Rule, declared.rule.Rule.TheVariants.System, Granted.granted_octets}
+use Rattle.cms.specs.{SignedData.attribute_text, declared.signer.SignerFault.SignerFault}
 use Rattle.book.specs.History.{Entry, Reserved, Sealed, Deposited, Calibrated, Installed, History, ReservationValue}
 use Rattle.book.specs.History.{CalibrationValue, InstalledValue, greatest_serial, calibrations}
-use Rattle.book.specs.History.{latest_calibration}
-use Rattle.book.specs.Readers.{Reader, Account, Group}
-use Rattle.book.specs.Rows.{DepositRow}
-use Rattle.book.specs.Sound.{greatest_number, is_backwards}
-use Rattle.book.specs.Values.{deposit_of}
+use Rattle.book.specs.{History.latest_calibration, Readers.Reader, Readers.Account, Readers.Group, Rows.DepositRow}
+use Rattle.book.specs.{Sound.greatest_number, Sound.is_backwards, Values.deposit_of}
 use Rattle.desk.specs.Outcome.{Outcome, Cause, OfMemory, OfStore, OfSigner, cause_of, cause_of_signing, first_cause}
-use Rattle.desk.specs.Outcome.{Refusal, ByRule, ByCause}
 use Rattle.desk.specs.Findings.{StampPlan, Finding, Fails, Unanswered, Allowed}
 use Rattle.desk.specs.Command.{Setting, PendingValue, Answer, Stamped, Rejected, Begun, Kept, Shown, Done, Numbered}
-use Rattle.desk.specs.Command.{Refused}
-use Rattle.tsp.specs.Granted.{granted_octets}
 use Rattle.desk.specs.Texts.{reservation_of, pending_of, token_with}
-use Rattle.desk.specs.declared.fault.Fault.{Fault}
+use Rattle.desk.specs.{Outcome.Refusal, Outcome.ByRule, Outcome.ByCause, Command.Refused, declared.fault.Fault.Fault}
 use Rattle.desk.specs.declared.fault.Fault.TheVariants as fault
 
 -- the newest entry first; the text that the signer is asked to sign

@@ -4,10 +4,8 @@ use Rattle.gentime.specs.GenTime.{last_moment}
 use Rattle.policy.specs.Record.{AccountValue, PolicyValue}
 use Rattle.book.specs.History.{History, CalibrationValue, latest_calibration, is_held, last_gen_time, count_of_day}
 use Rattle.book.specs.History.{day_of}
-use Rattle.decide.specs.Clock.{now_at, at_least_zero, gen_time}
-use Rattle.decide.specs.declared.facts.Calibration.{Calibration}
-use Rattle.decide.specs.declared.facts.ClockFacts.{ClockFacts}
-use Rattle.decide.specs.declared.facts.Facts.{Facts}
+use Rattle.decide.specs.{Clock.now_at, Clock.at_least_zero, Clock.gen_time, declared.facts.Calibration.Calibration}
+use Rattle.decide.specs.{declared.facts.ClockFacts.ClockFacts, declared.facts.Facts.Facts}
 
 abbrev pub calibration_of : CalibrationValue → Calibration
 calibration_of c = record { reading = c.reading; offset = c.offset; uncertainty = c.uncertainty }

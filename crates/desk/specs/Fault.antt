@@ -1,7 +1,6 @@
 -- The numbers of the refusals, and how deposits are refused.
 use Rattle.std.specs.Prelude.{ℕ, ◌≤◌}
-use Rattle.tsp.specs.Rejection.{number_of as number_of_rule}
-use Rattle.tsp.specs.declared.rule.Rule.{Rule}
+use Rattle.tsp.specs.{Rejection.number_of as number_of_rule, declared.rule.Rule.Rule}
 use Rattle.book.specs.Readers.{Reader, Account, Group}
 use Rattle.desk.specs.declared.fault.Fault.{Fault}
 use Rattle.desk.specs.declared.fault.Fault.TheVariants as fault

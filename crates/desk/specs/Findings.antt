@@ -2,16 +2,13 @@
 -- the stamp's plan.
 use Rattle.std.specs.Prelude.{◌≡◌, ℕ, ℤ, ◌⊎◌, List, Option, Some}
 use Rattle.policy.specs.Record.{AccountValue, PolicyValue}
-use Rattle.tsp.specs.Request.{RequestValue, Spells}
 use Rattle.tsp.specs.Rules.{HoldsOfOctets, IsFirstFailing}
-use Rattle.tsp.specs.declared.rule.Rule.{Rule}
 use Rattle.tsp.specs.declared.rule.Rule.TheVariants.{Spelling, Version, Account, Algorithm, HashLength, Policy}
 use Rattle.tsp.specs.declared.rule.Rule.TheVariants.{PolicyAlgorithm, Extensions, Certificate, Clock, Quota, System}
-use Rattle.decide.specs.Clock.{IsGood, IsGoodAt}
-use Rattle.decide.specs.Rules.{Holds, HoldsOf, policy_asked}
+use Rattle.tsp.specs.{Request.RequestValue, Request.Spells, declared.rule.Rule.Rule}
+use Rattle.decide.specs.{Clock.IsGood, Clock.IsGoodAt, Rules.Holds, Rules.HoldsOf, Rules.policy_asked}
 use Rattle.book.specs.History.{History}
-use Rattle.desk.specs.Facts.{facts_of}
-use Rattle.desk.specs.Outcome.{Fine, Cause, cause_of, Outcome}
+use Rattle.desk.specs.{Facts.facts_of, Outcome.Fine, Outcome.Cause, Outcome.cause_of, Outcome.Outcome}
 
 -- the rules 1 to 9, which ask the store nothing
 abbrev pub HoldsUnasked : PolicyValue → Option AccountValue → List ℕ → Rule → Type 0

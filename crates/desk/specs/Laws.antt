@@ -1,37 +1,26 @@
 -- What is promised of the machine: of grants and rejections, of journeys that go on, and of an account's commands.
 use Rattle.std.specs.Prelude.{◌≡◌, ℕ, ◌+◌, ◌<◌, ◌≤◌, ◌⊎◌, ℤ, nat_le, true, false, List, [], ◌∷◌, ◌++◌, filter, length}
 use Rattle.std.specs.Prelude.{Option, Some, None, Result, Ok}
-use Rattle.std.specs.List.{Contains}
-use Rattle.std.specs.Str.{bytes_eq}
+use Rattle.std.specs.{List.Contains, Str.bytes_eq}
 use Rattle.policy.specs.Record.{AccountValue}
-use Rattle.tsp.specs.Granted.{granted_octets}
-use Rattle.tsp.specs.Rules.{IsFirstFailing}
-use Rattle.tsp.specs.declared.rule.Rule.{Rule}
 use Rattle.tsp.specs.declared.rule.Rule.TheVariants.{System}
-use Rattle.cms.specs.SignedData.{attribute_text, token}
-use Rattle.cms.specs.declared.signer.SignerFault.{SignerFault}
+use Rattle.tsp.specs.{Granted.granted_octets, Rules.IsFirstFailing, declared.rule.Rule.Rule}
+use Rattle.cms.specs.{SignedData.attribute_text, SignedData.token, declared.signer.SignerFault.SignerFault}
 use Rattle.book.specs.History.{Entry, Reserved, Deposited, History, ReservationValue, stamps, deposits, holds}
 use Rattle.book.specs.History.{latest_calibration, greatest_serial, deposit_at, deposit_under}
-use Rattle.book.specs.Rows.{DepositRow}
 use Rattle.book.specs.Identities.{latest_identity, identity_at_reservation}
-use Rattle.book.specs.Readers.{Viewer}
-use Rattle.book.specs.Sound.{greatest_number}
-use Rattle.book.specs.Values.{deposit_of}
-use Rattle.desk.specs.Agreement.{seen_at, Agree, IsCommandOf}
+use Rattle.book.specs.{Rows.DepositRow, Readers.Viewer, Sound.greatest_number, Values.deposit_of}
 use Rattle.desk.specs.Outcome.{Outcome, Cause, cause_of, cause_of_signing}
 use Rattle.desk.specs.Findings.{StampPlan, IsAllowed, HoldsAt, HoldsUnasked}
 use Rattle.desk.specs.Command.{Setting, PendingValue, Command, Stamp, Begin, Finish, Abandon, Deposit, Show, Token}
 use Rattle.desk.specs.Command.{ListAll, Grant, Revoke, Calibrate, Hold, Succeed, Answer, Stamped, Rejected, Begun}
-use Rattle.desk.specs.Command.{Kept, Refused, setting_after}
 use Rattle.desk.specs.Texts.{tst_of, reservation_of, pending_of, token_with, gives_certificate, request_for, octets_for}
 use Rattle.desk.specs.Effects.{Effect, next_reservation, name_of}
-use Rattle.desk.specs.declared.fault.Fault.{Fault}
-use Rattle.desk.specs.declared.fault.Fault.TheVariants as fault
-use Rattle.desk.specs.MachineStep.{HasEffect, IsMet}
 use Rattle.desk.specs.MachineRuns.{Told, after, cut, Runs}
-use Rattle.desk.specs.Serials.{serials_of}
-use Rattle.desk.specs.Succession.{installed_by, IsInForce}
-use Rattle.desk.specs.Viewers.{viewer_in}
+use Rattle.desk.specs.{Agreement.seen_at, Agreement.Agree, Agreement.IsCommandOf, Command.Kept, Command.Refused}
+use Rattle.desk.specs.{Command.setting_after, declared.fault.Fault.Fault, MachineStep.HasEffect, MachineStep.IsMet}
+use Rattle.desk.specs.{Serials.serials_of, Succession.installed_by, Succession.IsInForce, Viewers.viewer_in}
+use Rattle.desk.specs.declared.fault.Fault.TheVariants as fault
 
 -- A grant: no rule of 1 to 11 fails, the serial number is the greatest plus one, and the reply has the token over the
 -- TSTInfo of the plan under that number, with the signature that the signer answered.

@@ -1,32 +1,21 @@
 -- Runs of the machine over lists of commands, and journeys through openings and stops.
 use Rattle.std.specs.Prelude.{◌≡◌, ℕ, ◌≤◌, ◌++◌, ◌+◌, Bool, true, false, List, [], ◌∷◌, drop, length, Option, Some}
-use Rattle.std.specs.Prelude.{None, Result}
-use Rattle.std.specs.List.{AllByRecursion, Contains}
+use Rattle.std.specs.{Prelude.None, Prelude.Result, List.AllByRecursion, List.Contains}
 use Rattle.der.specs.ObjectIdentifier.{IsOid}
-use Rattle.cms.specs.Identity.{IdentityValue}
-use Rattle.cms.specs.SignedData.{token}
-use Rattle.cms.specs.declared.signer.SignerFault.{SignerFault}
+use Rattle.cms.specs.{Identity.IdentityValue, SignedData.token, declared.signer.SignerFault.SignerFault}
 use Rattle.decide.specs.Clock.{Follows}
-use Rattle.book.specs.Continuation.{Floor, IsAboveIfAny, continued}
 use Rattle.book.specs.History.{Entry, Reserved, Sealed, Deposited, Calibrated, Held, Granted, Revoked, Installed}
 use Rattle.book.specs.History.{History, InstalledValue, ReservationValue, calibrations, holds}
-use Rattle.book.specs.History.{last_gen_time, token_of}
-use Rattle.book.specs.History.{reservation_at, deposit_at}
-use Rattle.book.specs.Sound.{Along}
-use Rattle.book.specs.Rows.{DepositRow}
-use Rattle.book.specs.Identities.{latest_identity, identity_at_reservation}
-use Rattle.book.specs.Values.{deposit_of}
-use Rattle.desk.specs.Content.{IsForRequest, IsSoundInFull}
-use Rattle.desk.specs.Continuation.{IsStatedIfAny}
-use Rattle.desk.specs.Outcome.{Outcome}
+use Rattle.book.specs.{Continuation.Floor, Continuation.IsAboveIfAny, Continuation.continued, History.last_gen_time}
+use Rattle.book.specs.{History.token_of, History.reservation_at, History.deposit_at, Sound.Along, Rows.DepositRow}
+use Rattle.book.specs.{Identities.latest_identity, Identities.identity_at_reservation, Values.deposit_of}
 use Rattle.desk.specs.Command.{Setting, PendingValue, Command, Stamp, Finish, Abandon, Deposit, Show, Token, Grant}
 use Rattle.desk.specs.Command.{Revoke, Calibrate, Hold, Succeed, Answer, Stamped, Rejected, Begun, Kept, Shown, Listed}
 use Rattle.desk.specs.Command.{Done, Numbered, Refused, setting_after}
-use Rattle.tsp.specs.Granted.{granted_octets}
-use Rattle.desk.specs.Texts.{token_with}
-use Rattle.desk.specs.Effects.{Effect}
 use Rattle.desk.specs.MachineStep.{HasEffect, IsMet, Moves}
-use Rattle.desk.specs.Succession.{installed_by, HasSubject}
+use Rattle.desk.specs.{Content.IsForRequest, Content.IsSoundInFull, Continuation.IsStatedIfAny, Outcome.Outcome}
+use Rattle.desk.specs.{Texts.token_with, Effects.Effect, Succession.installed_by, Succession.HasSubject}
+use Rattle.tsp.specs.Granted.{granted_octets}
 
 -- a policy file's record with an accuracy, in microseconds, and object identifiers as such files have, and an identity
 -- that was read

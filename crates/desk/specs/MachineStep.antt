@@ -6,19 +6,15 @@ use Rattle.tsp.specs.Request.{Spells}
 use Rattle.cms.specs.declared.signer.SignerFault.{SignerFault}
 use Rattle.book.specs.History.{Granted, Revoked, Held, History, ReservationValue, reservation_at}
 use Rattle.book.specs.History.{holds, token_of, deposit_under}
-use Rattle.book.specs.Identities.{latest_identity}
-use Rattle.book.specs.Rights.{seen_by, listed}
-use Rattle.book.specs.Rows.{DepositRow}
+use Rattle.book.specs.{Identities.latest_identity, Rights.seen_by, Rights.listed, Rows.DepositRow}
 use Rattle.desk.specs.Outcome.{Outcome, Cause, cause_of}
-use Rattle.desk.specs.Findings.{Finding, Finds}
 use Rattle.desk.specs.Command.{Setting, PendingValue, Command, Stamp, Begin, Finish, Abandon, Deposit, Show, Token}
 use Rattle.desk.specs.Command.{ListAll, Grant, Revoke, Calibrate, Hold, Succeed, Listed, Done, Refused}
-use Rattle.desk.specs.Texts.{octets_for, request_for}
-use Rattle.desk.specs.Viewers.{viewer_in}
 use Rattle.desk.specs.Effects.{no_sight, Effect, only, fault_of, unless, stamp_found, begin_found, finish_effect}
 use Rattle.desk.specs.Effects.{deposit_found, known_effect, name_of, show_effect, token_effect, right_effect}
 use Rattle.desk.specs.Effects.{calibrate_effect, numbered, succeed_effect, no_seal, too_large}
 use Rattle.desk.specs.Succession.{installed_by, is_latest, HasSubject}
+use Rattle.desk.specs.{Findings.Finding, Findings.Finds, Texts.octets_for, Texts.request_for, Viewers.viewer_in}
 
 -- the effect of what was found
 abbrev pub HasFound : (Finding → Type 0) → (Finding → Effect) → Effect → Type 0

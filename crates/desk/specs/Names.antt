@@ -1,8 +1,7 @@
 -- Of which commands the TSTInfo of a reservation names the identity in force.
 use Rattle.book.specs.History.{History}
 use Rattle.desk.specs.Command.{Setting, Command, Stamp, Begin, Finish, Abandon, Deposit, Show, Token, ListAll, Grant}
-use Rattle.desk.specs.Command.{Revoke, Calibrate, Hold, Succeed}
-use Rattle.desk.specs.Succession.{IsNameable}
+use Rattle.desk.specs.{Command.Revoke, Command.Calibrate, Command.Hold, Command.Succeed, Succession.IsNameable}
 
 -- Where a command reserves and TSTInfos name the identity in force, it is the one that was installed last.
 abbrev pub IsNameableFor : Setting → Command → History → Type 0

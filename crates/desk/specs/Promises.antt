@@ -1,20 +1,12 @@
 -- What is promised of each command of the machine on a sound history, as the laws say it: of what it has signed and
 -- grants, of what it shows, of what it tells its account of others and leaves of others' for it, and of what it adds.
 use Rattle.std.specs.Prelude.{◌≡◌, ℕ, List, Some}
-use Rattle.book.specs.History.{History}
-use Rattle.book.specs.Sound.{IsSound}
-use Rattle.desk.specs.Agreement.{Agree, IsCommandOf}
-use Rattle.desk.specs.Content.{IsSoundInFull}
-use Rattle.desk.specs.Outcome.{Outcome}
+use Rattle.book.specs.{History.History, Sound.IsSound}
 use Rattle.desk.specs.Command.{InForce, Setting, PendingValue, Command, Succeed, Begun, Done, setting_after}
-use Rattle.desk.specs.Effects.{Effect}
-use Rattle.desk.specs.MachineStep.{HasEffect, IsMet}
-use Rattle.desk.specs.MachineRuns.{IsProper, after}
 use Rattle.desk.specs.Laws.{IsReservedText, IsPendingOf, IsOfPlan, IsCommandOfOther, Concerns, StaysFor}
-use Rattle.desk.specs.Sight.{ShowsExactly}
-use Rattle.desk.specs.Names.{IsNameableFor}
-use Rattle.desk.specs.Succession.{IsInForce}
-use Rattle.desk.specs.Viewers.{viewer_in}
+use Rattle.desk.specs.{Agreement.Agree, Agreement.IsCommandOf, Content.IsSoundInFull, Outcome.Outcome, Effects.Effect}
+use Rattle.desk.specs.{MachineStep.HasEffect, MachineStep.IsMet, MachineRuns.IsProper, MachineRuns.after}
+use Rattle.desk.specs.{Sight.ShowsExactly, Names.IsNameableFor, Succession.IsInForce, Viewers.viewer_in}
 
 -- the same effect from another history, and that the histories after it agree
 pub record IsAlike (account : List ℕ) (s : Setting) (c : Command) (o : Outcome) (b other : History) (e : Effect)

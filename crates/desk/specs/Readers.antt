@@ -3,8 +3,7 @@ use Rattle.std.specs.Prelude.{List, [], ◌∷◌, ◌++◌, drop, Option}
 use Rattle.book.specs.History.{Entry, Granted, Revoked, History}
 use Rattle.desk.specs.Command.{Command, Grant, Revoke, Answer, Done}
 use Rattle.desk.specs.MachineRuns.{Told, Journey, begins, opens, opens_older, shuts, rests, enters, breaks, goes, stops}
-use Rattle.desk.specs.MachineRuns.{continues}
-use Rattle.desk.specs.Command.{Setting}
+use Rattle.desk.specs.{MachineRuns.continues, Command.Setting}
 
 -- the entry, where it is done
 abbrev pub where_done : Entry → Answer → List Entry

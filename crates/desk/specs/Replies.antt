@@ -1,16 +1,12 @@
 -- What a reply says of its request, over the history for which the store stood.
 use Rattle.std.specs.Prelude.{◌≡◌, ℕ, ◌+◌, ◌⊎◌, ℤ, List, Option, Result, Ok}
 use Rattle.policy.specs.Record.{AccountValue}
-use Rattle.tsp.specs.Granted.{granted_octets}
-use Rattle.tsp.specs.Rules.{IsFirstFailing}
-use Rattle.tsp.specs.declared.rule.Rule.{Rule}
 use Rattle.tsp.specs.declared.rule.Rule.TheVariants.{System}
-use Rattle.cms.specs.SignedData.{attribute_text, token}
-use Rattle.cms.specs.declared.signer.SignerFault.{SignerFault}
+use Rattle.tsp.specs.{Granted.granted_octets, Rules.IsFirstFailing, declared.rule.Rule.Rule}
+use Rattle.cms.specs.{SignedData.attribute_text, SignedData.token, declared.signer.SignerFault.SignerFault}
 use Rattle.book.specs.History.{History, greatest_serial}
-use Rattle.desk.specs.Command.{Setting}
 use Rattle.desk.specs.Findings.{StampPlan, IsAllowed, HoldsAt, HoldsUnasked}
-use Rattle.desk.specs.Texts.{tst_of}
+use Rattle.desk.specs.{Command.Setting, Texts.tst_of}
 
 -- A grant: none of the rules 1 to 11 fails; the serial number is the greatest plus one; and the octets are those of the
 -- token over the plan's one TSTInfo under that number, with the signer's answer to the token's attributes.

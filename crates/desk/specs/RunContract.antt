@@ -1,26 +1,16 @@
 -- Calls one after the other are a run of the machine: what the contract of `run` says.
 use Rattle.std.specs.Prelude.{◌≡◌, ◌⊎◌, ℕ, List, [], ◌∷◌, Option, Some, Result}
 use Rattle.book.specs.declared.standing.Standing.{Ghosts}
+use Rattle.book.specs.{History.History, Readers.Reader, Rights.is_reader, Sound.IsSound, Stands.Stands}
 use Rattle.cms.specs.declared.signer.SignerFault.{SignerFault}
-use Rattle.book.specs.History.{History}
-use Rattle.book.specs.Readers.{Reader}
-use Rattle.book.specs.Rights.{is_reader}
-use Rattle.book.specs.Sound.{IsSound}
-use Rattle.book.specs.Stands.{Stands}
-use Rattle.desk.specs.Agreement.{Agree}
-use Rattle.desk.specs.Outcome.{Outcome}
 use Rattle.desk.specs.Command.{Setting, Command, Stamp, Begin, Finish, Abandon, Deposit, Show, Token, ListAll, Grant}
 use Rattle.desk.specs.Command.{Revoke, Calibrate, Hold, Succeed, Answer, Stamped, Rejected, Begun, Kept, Shown, Listed}
 use Rattle.desk.specs.Command.{Done, Numbered, Refused, setting_after}
-use Rattle.desk.specs.Effects.{Effect}
-use Rattle.desk.specs.MachineStep.{HasEffect}
 use Rattle.desk.specs.MachineRuns.{Told, Journey, HasProperties, Runs, after}
-use Rattle.desk.specs.Readers.{rights_along}
-use Rattle.desk.specs.Serials.{given_along, AreInOrder}
-use Rattle.desk.specs.Promises.{KeepsPromises}
 use Rattle.desk.specs.Laws.{Continues, AreMet, AreCommandsOf, RunsAlike, IsCommandOfOther, Concerns, StaysFor}
 use Rattle.desk.specs.CallContract.{DeskValue, StepsBy, IsBareStep, IsDoubted, with_signer}
-use Rattle.desk.specs.Viewers.{viewer_in}
+use Rattle.desk.specs.{Agreement.Agree, Outcome.Outcome, Effects.Effect, MachineStep.HasEffect, Readers.rights_along}
+use Rattle.desk.specs.{Serials.given_along, Serials.AreInOrder, Promises.KeepsPromises, Viewers.viewer_in}
 
 -- A succession that is done, where nothing was added too, was of a store that was open. Of what was committed the step
 -- says that the store is open after it.

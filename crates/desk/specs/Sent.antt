@@ -1,15 +1,10 @@
 -- What goes out to the signer while stamps are answered together.
 use Rattle.std.specs.Prelude.{◌≡◌, ℕ, List, map}
-use Rattle.book.specs.declared.standing.Standing.{Ghosts}
-use Rattle.book.specs.History.{History, ReservationValue}
-use Rattle.book.specs.Stands.{Stands}
+use Rattle.book.specs.{declared.standing.Standing.Ghosts, History.History, History.ReservationValue, Stands.Stands}
 use Rattle.cms.specs.SignedData.{attribute_text}
 use Rattle.desk.specs.Batches.{Question, HaveEffects, all_reserved, batch_of, after_batch}
-use Rattle.desk.specs.Command.{Setting}
-use Rattle.desk.specs.Commits.{if_accepted}
-use Rattle.desk.specs.Effects.{Effect}
 use Rattle.desk.specs.Outcome.{Call, Outcome}
-use Rattle.desk.specs.Together.{IsCommittedTogether}
+use Rattle.desk.specs.{Command.Setting, Commits.if_accepted, Effects.Effect, Together.IsCommittedTogether}
 
 -- the texts of reservations, in their order
 abbrev pub texts_for : Setting → List ReservationValue → List (List ℕ)

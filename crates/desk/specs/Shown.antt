@@ -1,8 +1,6 @@
 -- The answers of the machine that those of the calls on deposits and rights are.
-use Rattle.std.specs.Prelude.{ℕ, map, Vec}
-use Rattle.std.specs.declared.alloc.Global.{Global}
-use Rattle.book.specs.Values.{listed_view}
-use Rattle.book.specs.declared.values.Listed.{Listed as Row}
+use Rattle.std.specs.{Prelude.ℕ, Prelude.map, Prelude.Vec, declared.alloc.Global.Global}
+use Rattle.book.specs.{Values.listed_view, declared.values.Listed.Listed as Row}
 use Rattle.desk.specs.Command.{Answer, Kept, Shown, Listed, Done, Numbered}
 use Rattle.desk.specs.declared.reply.Deposited.{Deposited}
 

@@ -4,9 +4,7 @@ use Rattle.std.specs.List.{AllByRecursion}
 use Rattle.policy.specs.Record.{PolicyValue}
 use Rattle.tsp.specs.Granted.{granted_octets}
 use Rattle.book.specs.History.{History, ReservationValue, deposit_at, reservation_at, token_of}
-use Rattle.book.specs.Readers.{Viewer}
-use Rattle.book.specs.Rights.{ListedValue, may_read, listed_as}
-use Rattle.book.specs.Rows.{DepositRow}
+use Rattle.book.specs.{Readers.Viewer, Rights.ListedValue, Rights.may_read, Rights.listed_as, Rows.DepositRow}
 use Rattle.desk.specs.Outcome.{Outcome, Cause, OfMemory, OfStore, cause_of, first_cause}
 use Rattle.desk.specs.Command.{Command, Stamp, Begin, Finish, Abandon, Deposit, Show, Token, ListAll, Grant, Revoke}
 use Rattle.desk.specs.Command.{Calibrate, Hold, Succeed, Answer, Shown, Listed, Refused}

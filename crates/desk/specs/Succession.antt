@@ -1,13 +1,9 @@
 -- Which identity is in force, by the history, and whom TSTInfos name.
 use Rattle.std.specs.Prelude.{◌≡◌, Bool, true, false, ◌&&◌, if◌then◌else◌, Option, Some, None}
 use Rattle.std.specs.Str.{bytes_eq}
-use Rattle.der.specs.DataValue.{value_in}
-use Rattle.der.specs.Node.{Node}
-use Rattle.cms.specs.Certificate.{IsSubject, IsSubjectName}
-use Rattle.cms.specs.Identity.{IdentityValue}
-use Rattle.book.specs.History.{InstalledValue, History}
-use Rattle.book.specs.Identities.{latest_identity}
-use Rattle.book.specs.Values.{installed_of}
+use Rattle.der.specs.{DataValue.value_in, Node.Node}
+use Rattle.cms.specs.{Certificate.IsSubject, Certificate.IsSubjectName, Identity.IdentityValue}
+use Rattle.book.specs.{History.InstalledValue, History.History, Identities.latest_identity, Values.installed_of}
 use Rattle.desk.specs.Command.{InForce, Setting}
 
 -- an identity as a history keeps it

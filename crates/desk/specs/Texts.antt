@@ -1,17 +1,13 @@
 -- The texts that a stamp consists of.
 use Rattle.std.specs.Prelude.{ℕ, Bool, false, List, option_map, unwrap_or}
-use Rattle.der.specs.Node.{encoding}
-use Rattle.der.specs.ObjectIdentifier.{oid_content}
+use Rattle.der.specs.{Node.encoding, ObjectIdentifier.oid_content}
 use Rattle.sha2.specs.Sha256.{sha256}
-use Rattle.policy.specs.LookUp.{default_policy}
-use Rattle.policy.specs.Record.{AccountValue, PolicyValue}
+use Rattle.policy.specs.{LookUp.default_policy, Record.AccountValue, Record.PolicyValue}
 use Rattle.tsp.specs.Request.{RequestValue, time_stamp_req, sha256_request, unstated}
 use Rattle.tsp.specs.Tst.{tst_info, answer}
 use Rattle.cms.specs.SignedData.{token}
 use Rattle.book.specs.History.{ReservationValue}
-use Rattle.desk.specs.Findings.{StampPlan}
-use Rattle.desk.specs.Command.{Setting, PendingValue}
-use Rattle.desk.specs.Succession.{tsa_of}
+use Rattle.desk.specs.{Findings.StampPlan, Command.Setting, Command.PendingValue, Succession.tsa_of}
 
 -- the TSTInfo by the plan, under a serial number, with the policy file's accuracy and ordering, and the name of the
 -- identity in force where the file wants it

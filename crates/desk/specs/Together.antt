@@ -2,29 +2,18 @@
 use Rattle.std.specs.Prelude.{◌≡◌, ℕ, ◌⊎◌, List, [], ◌∷◌, ◌++◌, map, Result, Ok, Err}
 use Rattle.std.specs.List.{AllByRecursion}
 use Rattle.policy.specs.Record.{PolicyValue}
-use Rattle.tsp.specs.Rules.{IsFirstFailing}
-use Rattle.tsp.specs.declared.rule.Rule.{Rule}
-use Rattle.cms.specs.Signer.{count_after_each}
-use Rattle.cms.specs.declared.signer.SignerFault.{SignerFault}
+use Rattle.tsp.specs.{Rules.IsFirstFailing, declared.rule.Rule.Rule}
+use Rattle.cms.specs.{Signer.count_after_each, declared.signer.SignerFault.SignerFault}
 use Rattle.cms.specs.declared.signer.SignerFault.TheVariants as signer
 use Rattle.decide.specs.View.{account_asked}
-use Rattle.book.specs.declared.standing.Standing.{Ghosts}
-use Rattle.book.specs.History.{Entry, Reserved, History, ReservationValue}
-use Rattle.book.specs.Shows.{ShowsSame}
-use Rattle.book.specs.Sound.{IsSound}
-use Rattle.book.specs.Stands.{Stands, OnlyLooks}
+use Rattle.book.specs.{declared.standing.Standing.Ghosts, History.Entry, History.Reserved, History.History}
+use Rattle.book.specs.{History.ReservationValue, Shows.ShowsSame, Sound.IsSound, Stands.Stands, Stands.OnlyLooks}
 use Rattle.desk.specs.Outcome.{Call, Fine, Outcome, counted}
-use Rattle.desk.specs.MachineRuns.{Runs, Told}
-use Rattle.desk.specs.RunContract.{ArePromised}
-use Rattle.desk.specs.Findings.{HoldsUnasked}
 use Rattle.desk.specs.Command.{Setting, Answer, Rejected}
 use Rattle.desk.specs.Batches.{Question, SealValue, stamp_for, stamps_for, seal_entry, with_reserved}
-use Rattle.desk.specs.Batches.{IsCutTogether, faults_along}
-use Rattle.desk.specs.Commits.{IsCommitted, if_accepted}
-use Rattle.desk.specs.Effects.{name_of}
-use Rattle.desk.specs.Fit.{IsFit}
-use Rattle.desk.specs.declared.batch.Asked.{Asked}
-use Rattle.desk.specs.declared.findings.Requested.{Requested}
+use Rattle.desk.specs.{MachineRuns.Runs, MachineRuns.Told, RunContract.ArePromised, Findings.HoldsUnasked}
+use Rattle.desk.specs.{Batches.IsCutTogether, Batches.faults_along, Commits.IsCommitted, Commits.if_accepted}
+use Rattle.desk.specs.{Effects.name_of, Fit.IsFit, declared.batch.Asked.Asked, declared.findings.Requested.Requested}
 
 abbrev pub question_view : Asked → Question
 question_view a = record { account = account_asked a.account; reading = a.reading; octets = a.query.now }

@@ -1,16 +1,14 @@
 -- Stamps that wait: what is reserved for each, and what waits for its signature then.
 use Rattle.std.specs.Prelude.{◌≡◌, ℕ, List, map}
 use Rattle.der.specs.ObjectIdentifier.{oid_content}
-use Rattle.cms.specs.Identity.{IdentityValue}
-use Rattle.cms.specs.SignedData.{attribute_text}
+use Rattle.cms.specs.{Identity.IdentityValue, SignedData.attribute_text}
 use Rattle.book.specs.History.{History, ReservationValue}
-use Rattle.desk.specs.Batches.{with_reserved}
-use Rattle.desk.specs.Command.{Setting, PendingValue}
-use Rattle.desk.specs.declared.unsigned_token.UnsignedToken.{UnsignedToken}
-use Rattle.desk.specs.declared.waiting_stamp.Waiting.{Waiting}
+use Rattle.desk.specs.{Batches.with_reserved, Command.Setting, Command.PendingValue}
+use Rattle.desk.specs.{declared.unsigned_token.UnsignedToken.UnsignedToken}
+use Rattle.desk.specs.{declared.waiting_stamp.WaitingStamp.WaitingStamp}
 
 -- what is reserved for what waits
-abbrev pub waiting_view : Waiting → ReservationValue
+abbrev pub waiting_view : WaitingStamp → ReservationValue
 waiting_view w = record {
   serial = w.unsigned.serial;
   account = w.account.now;
@@ -32,16 +30,16 @@ pending_by identity algorithm u = record {
   algorithm = algorithm;
 }
 
-abbrev pub pending_in : Setting → Waiting → PendingValue
+abbrev pub pending_in : Setting → WaitingStamp → PendingValue
 pending_in s w = pending_by s.in_force.identity s.in_force.algorithm w.unsigned
 
-abbrev pub pendings_in : Setting → List Waiting → List PendingValue
+abbrev pub pendings_in : Setting → List WaitingStamp → List PendingValue
 pendings_in s ws = map (pending_in s) ws
 
 -- its text is written
-abbrev pub HasText : Setting → Waiting → Type 0
+abbrev pub HasText : Setting → WaitingStamp → Type 0
 HasText s w = w.unsigned.text.items ≡ attribute_text s.in_force.identity w.unsigned.tst.items
 
 -- the history with all that waits reserved, the first of the list first
-abbrev pub with_waiting : List Waiting → History → History
+abbrev pub with_waiting : List WaitingStamp → History → History
 with_waiting ws b = with_reserved (map waiting_view ws) b

@@ -3,14 +3,10 @@
 ghost use Rattle.std.specs.Prelude.{◌≡◌, Err, IfErr, IsErr};
 ghost use Rattle.book.specs.Fault.{CountsFaults, IsOfStorage, IsOfStorageOr};
 ghost use Rattle.book.specs.History.{History, latest_calibration};
-ghost use Rattle.book.specs.Sound.{IsBackwards};
-ghost use Rattle.book.specs.Stands.{Stands};
-ghost use Rattle.book.specs.Values.{calibration_view, hold_view};
-ghost use Rattle.desk.specs.Answers.{entered};
-ghost use Rattle.desk.specs.CallContract.{StepsBy, IsStep, no_signer};
-ghost use Rattle.desk.specs.Command.{Setting, Calibrate, Hold as AddHold};
+ghost use Rattle.book.specs.{Sound.IsBackwards, Stands.Stands, Values.calibration_view, Values.hold_view};
 ghost use Rattle.desk.specs.auxiliary.Obstacles.{adding, outcome_with, told_with};
-ghost use Rattle.desk.specs.Shown.{numbered_as};
+ghost use Rattle.desk.specs.{Answers.entered, CallContract.StepsBy, CallContract.IsStep, CallContract.no_signer};
+ghost use Rattle.desk.specs.{Command.Setting, Command.Calibrate, Command.Hold as AddHold, Shown.numbered_as};
 
 use crate::desk::Desk;
 use crate::laws::steps_keep_their_promises;

@@ -1,9 +1,7 @@
 //! Stamps that are answered together.
 ghost use Rattle.std.specs.Prelude.{◌≡◌, map, IfOk, IfErr, OnErr, OnOk};
-ghost use Rattle.desk.specs.Answers.{reply_as};
-ghost use Rattle.desk.specs.Calls.{settings_view};
-ghost use Rattle.desk.specs.Sent.{SendsReserved};
 ghost use Rattle.desk.specs.Together.{questions_view, IsAnsweredTogether};
+ghost use Rattle.desk.specs.{Answers.reply_as, Calls.settings_view, Sent.SendsReserved};
 
 use crate::batch_start::begin_each;
 use crate::completion::finish_each;

@@ -1,17 +1,11 @@
 //! Stamps that are answered together, up to the one commit of their reservations.
 ghost use Rattle.std.specs.Prelude.{◌≡◌, ◌≤◌, ◌<◌, ◌+◌, [], map, length, IfOk, IfErr, OnErr, vec_capacity, vec_len};
-ghost use Rattle.book.specs.Entries.{entries_view};
-ghost use Rattle.book.specs.Fault.{IsOfStorage};
-ghost use Rattle.book.specs.History.{Reserved};
-ghost use Rattle.desk.specs.Calls.{settings_view};
-ghost use Rattle.desk.specs.Commits.{call_for, IsCommitted};
-ghost use Rattle.desk.specs.auxiliary.Halves.{AreBegun, HasRoom};
-ghost use Rattle.desk.specs.Effects.{rule_by as rule_for};
+ghost use Rattle.book.specs.{Entries.entries_view, Fault.IsOfStorage, History.Reserved};
 ghost use Rattle.desk.specs.Outcome.{Call, Fine, Outcome, Refusal};
-ghost use Rattle.desk.specs.Together.{question_view, questions_view};
 ghost use Rattle.desk.specs.auxiliary.Verdicts.{verdict_of, Settled, JudgesEach, JudgesOne};
-ghost use Rattle.desk.specs.auxiliary.Verdicts.{IsKept};
-ghost use Rattle.desk.specs.WaitingStamps.{waiting_view};
+ghost use Rattle.desk.specs.{Calls.settings_view, Commits.call_for, Commits.IsCommitted, auxiliary.Halves.AreBegun};
+ghost use Rattle.desk.specs.{auxiliary.Halves.HasRoom, Effects.rule_by as rule_for, Together.question_view};
+ghost use Rattle.desk.specs.{Together.questions_view, auxiliary.Verdicts.IsKept, WaitingStamps.waiting_view};
 
 use crate::batch::Asked;
 use crate::commit::commit;
@@ -20,16 +14,16 @@ use crate::pending_batch::{PendingBatch, empty_batch};
 use crate::refusal::{StampRefusal, rule_by};
 use crate::settings::Settings;
 use crate::stamp_start::judge_one;
-use crate::waiting_stamp::{Waiting, reservation_of};
+use crate::waiting_stamp::{WaitingStamp, reservation_of};
 use book::{Book, Entry, StoreFault};
 use std::alloc::Global;
 use tsp::Rule;
 
 /// Puts a stamp that was judged behind those before it.
 fn keep<'p, 'a>(
-    judged: Result<Waiting<'p, 'a>, StampRefusal>,
+    judged: Result<WaitingStamp<'p, 'a>, StampRefusal>,
     verdicts: &mut Vec<Option<Rule>>,
-    waits: &mut Vec<Waiting<'p, 'a>>,
+    waits: &mut Vec<WaitingStamp<'p, 'a>>,
 )
     requires room_for_verdict { vec_len verdicts.old < vec_capacity verdicts.old }
     requires room_for_wait { vec_len waits.old < vec_capacity waits.old }
@@ -57,7 +51,7 @@ fn judge_each<'p, 'a, B: Book + Drop>(
     settings: Settings<'p>,
     asked: &[Asked<'a>],
     verdicts: &mut Vec<Option<Rule>>,
-    waits: &mut Vec<Waiting<'p, 'a>>,
+    waits: &mut Vec<WaitingStamp<'p, 'a>>,
 )
     requires none_judged { verdicts.old.items ≡ [] }
     requires none_waits { waits.old.items ≡ [] }
@@ -75,7 +69,7 @@ fn judge_each<'p, 'a, B: Book + Drop>(
 }
 
 /// The reservations of what waits, as entries. Refused where memory wants.
-fn entries_of<'w>(alloc: Global, waits: &'w [Waiting<'_, '_>]) -> Result<Vec<Entry<'w>>, StoreFault>
+fn entries_of<'w>(alloc: Global, waits: &'w [WaitingStamp<'_, '_>]) -> Result<Vec<Entry<'w>>, StoreFault>
     ensures entries { IfOk result (λ entries. entries_view entries.items ≡ map Reserved (map waiting_view waits.now)) }
     ensures refused { IfErr result (λ fault. fault ≡ StoreFault.Memory) }
 {
@@ -92,7 +86,7 @@ fn entries_of<'w>(alloc: Global, waits: &'w [Waiting<'_, '_>]) -> Result<Vec<Ent
 fn reserve_each<B: Book + Drop>(
     store: &mut B,
     alloc: Global,
-    waits: &[Waiting<'_, '_>],
+    waits: &[WaitingStamp<'_, '_>],
 ) -> Result<(), StoreFault>
     ensures commits { IsCommitted B.Standing (map Reserved (map waiting_view waits.now)) store.old store.new
         (call_for result) }

@@ -2,17 +2,13 @@
 ghost use Rattle.std.specs.Prelude.{◌≡◌, ℕ, ◌≤◌, [], pos, Option, Some, None, option_map, IfOk, IfErr};
 ghost use Rattle.std.specs.Prelude.{MatchOption};
 ghost use Rattle.gentime.specs.GenTime.{last_moment};
-ghost use Rattle.book.specs.History.{History, greatest_serial};
-ghost use Rattle.book.specs.Sound.{IsSound};
-ghost use Rattle.book.specs.Stands.{Stands, OnlyLooks};
-ghost use Rattle.book.specs.Fault.{CountsFaults, IsOfStorage};
-ghost use Rattle.book.specs.Values.{calibration_option};
-ghost use Rattle.desk.specs.Facts.{now_with, is_held_at};
+ghost use Rattle.book.specs.{History.History, History.greatest_serial, Sound.IsSound, Stands.Stands, Stands.OnlyLooks};
+ghost use Rattle.book.specs.{Fault.CountsFaults, Fault.IsOfStorage, Values.calibration_option};
 ghost use Rattle.desk.specs.Calls.{looked_at, calibrations_as, moment_or_last};
-ghost use Rattle.desk.specs.WaitingStamps.{with_waiting};
+ghost use Rattle.desk.specs.{Facts.now_with, Facts.is_held_at, WaitingStamps.with_waiting};
 
 use crate::desk::Desk;
-use crate::waiting_stamp::Waiting;
+use crate::waiting_stamp::WaitingStamp;
 use book::{Book, StoreFault};
 use decide::{Calibration, ClockFacts, now_of};
 use gentime::{GenTime, LAST_MOMENT};
@@ -122,7 +118,7 @@ pub(crate) fn look<B: Book + Drop>(store: &mut B, reading: i64) -> Result<Looked
 /// What a look finds once all that waits is reserved: the last of it is the last one then.
 pub(crate) fn look_among<B: Book + Drop>(
     store: &mut B,
-    waits: &[Waiting<'_, '_>],
+    waits: &[WaitingStamp<'_, '_>],
     reading: i64,
 ) -> Result<Looked, StoreFault>
     ensures looks { OnlyLooks B.Standing store.old store.new }

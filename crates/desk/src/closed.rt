@@ -7,14 +7,9 @@ ghost use Rattle.book.specs.Continuation.{Floor, IsAboveIfAny, continued, is_clo
 ghost use Rattle.book.specs.History.{Entry, History, ReservationValue, reservations};
 ghost use Rattle.book.specs.Sound.{Along, IsSound};
 ghost use Rattle.desk.specs.Closed.{GivesNothingOut, StaysClosed};
-ghost use Rattle.desk.specs.Command.{Setting, Command};
-ghost use Rattle.desk.specs.Content.{IsSoundInFull};
 ghost use Rattle.desk.specs.Continuation.{IsRestated, IsStated, IsStatedIfAny};
-ghost use Rattle.desk.specs.Effects.{Effect};
-ghost use Rattle.desk.specs.Facts.{clock_of};
-ghost use Rattle.desk.specs.MachineRuns.{IsRising};
-ghost use Rattle.desk.specs.MachineStep.{HasEffect};
-ghost use Rattle.desk.specs.Outcome.{Outcome};
+ghost use Rattle.desk.specs.{Command.Setting, Command.Command, Content.IsSoundInFull, Effects.Effect, Facts.clock_of};
+ghost use Rattle.desk.specs.{MachineRuns.IsRising, MachineStep.HasEffect, Outcome.Outcome};
 
 use tsp::{requests_have_one_reading, tst_infos_have_one_reading};
 

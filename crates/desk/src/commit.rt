@@ -1,7 +1,6 @@
 //! Commits of entries.
 ghost use Rattle.std.specs.Prelude.{[], ◌∷◌, IfErr};
-ghost use Rattle.book.specs.Entries.{entries_view, entry_view, Appends};
-ghost use Rattle.book.specs.Fault.{IsOfStorage};
+ghost use Rattle.book.specs.{Entries.entries_view, Entries.entry_view, Entries.Appends, Fault.IsOfStorage};
 ghost use Rattle.desk.specs.Commits.{call_for, IsCommitted};
 
 use book::{Book, Entry, StoreFault};

@@ -1,18 +1,13 @@
 //! Stamps of a batch from their signatures on: all that were signed are sealed in one commit, and each is answered.
 ghost use Rattle.std.specs.Prelude.{◌≡◌, ◌≤◌, ◌<◌, ◌+◌, [], length, map, IfOk, IfErr};
-ghost use Rattle.std.specs.Prelude.{option_map, vec_len, vec_capacity};
-ghost use Rattle.std.specs.List.{AllByRecursion};
-ghost use Rattle.book.specs.Entries.{entries_view};
-ghost use Rattle.book.specs.Fault.{IsOfStorage};
+ghost use Rattle.std.specs.{Prelude.option_map, Prelude.vec_len, Prelude.vec_capacity, List.AllByRecursion};
+ghost use Rattle.book.specs.{Entries.entries_view, Fault.IsOfStorage};
 ghost use Rattle.cms.specs.Signer.{signed_by, IsSized};
-ghost use Rattle.desk.specs.Answers.{reply_as};
-ghost use Rattle.desk.specs.Batches.{seal_entry};
-ghost use Rattle.desk.specs.Calls.{settings_view};
 ghost use Rattle.desk.specs.Commits.{call_for, if_accepted, IsCommitted};
 ghost use Rattle.desk.specs.auxiliary.Completions.{seal_view, AreWritten, IsWrittenMore};
-ghost use Rattle.desk.specs.auxiliary.Halves.{AreFinished, HasRoom};
 ghost use Rattle.desk.specs.auxiliary.Verdicts.{merged, reply_for};
-ghost use Rattle.desk.specs.WaitingStamps.{pending_in, pendings_in};
+ghost use Rattle.desk.specs.{Answers.reply_as, Batches.seal_entry, Calls.settings_view, auxiliary.Halves.AreFinished};
+ghost use Rattle.desk.specs.{auxiliary.Halves.HasRoom, WaitingStamps.pending_in, WaitingStamps.pendings_in};
 
 use crate::commit::commit;
 use crate::pending_batch::PendingBatch;
@@ -20,7 +15,7 @@ use crate::reply::Reply;
 use crate::settings::Settings;
 use crate::stamp_end::no_answer;
 use crate::unsigned_token::{Written, write};
-use crate::waiting_stamp::Waiting;
+use crate::waiting_stamp::WaitingStamp;
 use book::{Book, Entry, StoreFault};
 use cms::SignerFault;
 use std::alloc::Global;
@@ -44,7 +39,7 @@ pub(crate) struct WrittenBatch {
 fn put(
     alloc: Global,
     settings: Settings<'_>,
-    waiting: &Waiting<'_, '_>,
+    waiting: &WaitingStamp<'_, '_>,
     answer: &Result<Vec<u8>, SignerFault>,
     written: &mut WrittenBatch,
 )
@@ -92,7 +87,7 @@ fn put(
 fn write_each(
     alloc: Global,
     settings: Settings<'_>,
-    waits: &[Waiting<'_, '_>],
+    waits: &[WaitingStamp<'_, '_>],
     answers: &[Result<Vec<u8>, SignerFault>],
     written: &mut WrittenBatch,
 )

@@ -2,14 +2,11 @@
 ghost use Rattle.std.specs.Prelude.{◌≡◌, ◌⊎◌, ◌<◌, length, Err, IfErr};
 ghost use Rattle.std.specs.Io.KnownBytes.{Keeps};
 ghost use Rattle.policy.specs.View.{account_view};
-ghost use Rattle.book.specs.Entries.{reader_view};
-ghost use Rattle.book.specs.Readers.{Account as Named, Group};
-ghost use Rattle.desk.specs.Answers.{answered};
-ghost use Rattle.desk.specs.Asked.{right_command};
+ghost use Rattle.book.specs.{Entries.reader_view, Readers.Account as Named, Readers.Group};
 ghost use Rattle.desk.specs.CallContract.{IsStep, no_signer, with_signer};
 ghost use Rattle.desk.specs.Command.{Deposit, Show, Token, ListAll, Grant, Revoke};
-ghost use Rattle.desk.specs.Fault.{IsOfDeposit, IsOfSight, IsOfRight};
-ghost use Rattle.desk.specs.Shown.{deposited_as, shown_as, listed_as, done_as};
+ghost use Rattle.desk.specs.{Answers.answered, Asked.right_command, Fault.IsOfDeposit, Fault.IsOfSight};
+ghost use Rattle.desk.specs.{Fault.IsOfRight, Shown.deposited_as, Shown.shown_as, Shown.listed_as, Shown.done_as};
 
 use crate::desk::Desk;
 use crate::fault::Fault;

@@ -3,19 +3,14 @@ ghost use mir.Syntax.{named};
 ghost use Rattle.std.specs.Borrow.{Lends, sem};
 ghost use Rattle.std.specs.Prelude.{◌≡◌, ◌⊎◌, ◌≤◌, ℕ, List, [], length, IfOk, IfErr, MatchResult};
 ghost use Rattle.policy.specs.View.{policy_view};
-ghost use Rattle.tsp.specs.Rules.{IsFirstFailing};
-ghost use Rattle.tsp.specs.declared.rule.Rule.{Rule};
+ghost use Rattle.tsp.specs.{Rules.IsFirstFailing, declared.rule.Rule.Rule};
 ghost use Rattle.decide.specs.View.{account_asked};
-ghost use Rattle.book.specs.History.{History};
-ghost use Rattle.book.specs.Stands.{Stands};
+ghost use Rattle.book.specs.{History.History, Stands.Stands};
 ghost use Rattle.desk.specs.Answers.{begun_as, reply_as, answered};
 ghost use Rattle.desk.specs.CallContract.{HasOpened, StandsInForce, IsStep, no_signer, with_signer, with_store};
-ghost use Rattle.desk.specs.Calls.{settings_view};
 ghost use Rattle.desk.specs.Command.{Begin, Finish, Abandon, Stamp, Stamped, Rejected, Done};
-ghost use Rattle.desk.specs.Findings.{HoldsUnasked};
-ghost use Rattle.desk.specs.MachineRuns.{IsProper};
-ghost use Rattle.desk.specs.Replies.{IsGranted, IsRejected};
-ghost use Rattle.desk.specs.contracts.desk.Desk.{the_row as desk_row};
+ghost use Rattle.desk.specs.{Calls.settings_view, Findings.HoldsUnasked, MachineRuns.IsProper, Replies.IsGranted};
+ghost use Rattle.desk.specs.{Replies.IsRejected, contracts.desk.Desk.the_row as desk_row};
 
 use crate::batch::Asked;
 use crate::fault::Fault;
@@ -48,15 +43,13 @@ pub struct Desk<'p, B: Book + Drop> {
 }
 
 impl<'p, B: Book + Drop> Model for Desk<'p, B> {
-    ghost use Rattle.desk.specs.CallContract.{DeskValue};
-    ghost use Rattle.desk.specs.auxiliary.Codes.{desk_code};
+    ghost use Rattle.desk.specs.{CallContract.DeskValue, auxiliary.Codes.desk_code};
 
     ghost Value = { DeskValue B };
 
     ghost coded = { desk_code B.code };
 
-    ghost use Rattle.desk.specs.Calls.{settings_view};
-    ghost use Rattle.desk.specs.MachineRuns.{IsProper};
+    ghost use Rattle.desk.specs.{Calls.settings_view, MachineRuns.IsProper};
 
     ghost view = { λ desk. record { setting = settings_view desk.settings; store = desk.store } };
 

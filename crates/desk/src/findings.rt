@@ -1,25 +1,18 @@
 //! What is found of a request before anything is reserved.
 ghost use Rattle.std.specs.Prelude.{◌≡◌, ℕ, ◌≤◌, List, [], None, length, IfOk, IfErr, IsErrAnd};
 ghost use Rattle.policy.specs.View.{policy_view};
-ghost use Rattle.tsp.specs.Request.{Spells};
-ghost use Rattle.tsp.specs.View.{request_view};
-ghost use Rattle.decide.specs.Verdict.{IsJudged};
-ghost use Rattle.decide.specs.View.{account_asked};
-ghost use Rattle.book.specs.History.{History, greatest_serial, day_of};
-ghost use Rattle.book.specs.Fault.{CountsFaults, IsOfStorage};
-ghost use Rattle.book.specs.Sound.{IsSound};
-ghost use Rattle.book.specs.Stands.{Stands, OnlyLooks};
 ghost use Rattle.tsp.specs.Rules.{HasVersionOne, IsFirstFailing};
-ghost use Rattle.tsp.specs.declared.rule.Rule.{Rule};
-ghost use Rattle.desk.specs.auxiliary.NewDeposit.{FailsLate};
+ghost use Rattle.tsp.specs.{Request.Spells, View.request_view, declared.rule.Rule.Rule};
+ghost use Rattle.decide.specs.{Verdict.IsJudged, View.account_asked};
+ghost use Rattle.book.specs.History.{History, greatest_serial, day_of};
+ghost use Rattle.book.specs.{Fault.CountsFaults, Fault.IsOfStorage, Sound.IsSound, Stands.Stands, Stands.OnlyLooks};
 ghost use Rattle.desk.specs.Findings.{HoldsUnasked, Finds};
-ghost use Rattle.desk.specs.Outcome.{faults_after};
 ghost use Rattle.desk.specs.Calls.{outcome_of, finding_of, why_of, count_for, IsOfLooks, IsSomebodys};
-ghost use Rattle.desk.specs.WaitingStamps.{with_waiting};
+ghost use Rattle.desk.specs.{auxiliary.NewDeposit.FailsLate, Outcome.faults_after, WaitingStamps.with_waiting};
 
 use crate::clock_facts::{Looked, look_among};
 use crate::refusal::StampRefusal;
-use crate::waiting_stamp::{Waiting, count_waiting};
+use crate::waiting_stamp::{WaitingStamp, count_waiting};
 use book::{Book, StoreFault};
 use decide::{ClockState, Facts, Verdict, clock_state, decide, judge_request, verdicts_are_one};
 use der::Oid;
@@ -47,7 +40,7 @@ pub(crate) struct Requested<'q, 'a> {
 /// How many reservations the account has on the day of a genTime, with those that wait.
 fn count<B: Book + Drop>(
     store: &mut B,
-    waits: &[Waiting<'_, '_>],
+    waits: &[WaitingStamp<'_, '_>],
     account: Option<&Account>,
     gen_time: GenTime,
 ) -> Result<u64, StoreFault>
@@ -74,7 +67,7 @@ fn count<B: Book + Drop>(
 /// Judges the rules 10 and 11, which ask the store, of a request that the rules before them let through.
 fn ask<'p, 'a, B: Book + Drop>(
     store: &mut B,
-    waits: &[Waiting<'_, '_>],
+    waits: &[WaitingStamp<'_, '_>],
     policy: &'p Policy,
     requested: Requested<'_, 'a>,
 ) -> Result<Planned<'p, 'a>, StampRefusal>
@@ -131,7 +124,7 @@ fn ask<'p, 'a, B: Book + Drop>(
 /// good.
 pub(crate) fn judge<'p, 'a, B: Book + Drop>(
     store: &mut B,
-    waits: &[Waiting<'_, '_>],
+    waits: &[WaitingStamp<'_, '_>],
     policy: &'p Policy,
     requested: Requested<'_, 'a>,
 ) -> Result<Planned<'p, 'a>, StampRefusal>

@@ -1,21 +1,13 @@
 //! A deposit: its stamp, and both in one commit.
 ghost use Rattle.std.specs.Prelude.{◌≡◌, ◌<◌, ◌≤◌, ℕ, List, Err, length, IfOk, IfErr, IfSome};
 ghost use Rattle.policy.specs.View.{account_view, policy_view};
-ghost use Rattle.book.specs.Fault.{CountsFaults, IsOfStorage};
 ghost use Rattle.book.specs.History.{History, deposit_under};
-ghost use Rattle.book.specs.Stands.{Stands, OnlyLooks};
-ghost use Rattle.desk.specs.Answers.{answered, ended_as};
+ghost use Rattle.book.specs.{Fault.CountsFaults, Fault.IsOfStorage, Stands.Stands, Stands.OnlyLooks};
 ghost use Rattle.desk.specs.CallContract.{IsBareStep, StepsWhere, with_signer};
-ghost use Rattle.desk.specs.Calls.{settings_view, why_of};
-ghost use Rattle.desk.specs.Command.{Deposit};
-ghost use Rattle.desk.specs.Effects.{for_deposit, in_deposit};
-ghost use Rattle.desk.specs.Fault.{IsOfDeposit};
-ghost use Rattle.desk.specs.auxiliary.Kept.{kept_as};
 ghost use Rattle.desk.specs.auxiliary.NewDeposit.{known_in, FailsLate, IsUnused};
-ghost use Rattle.desk.specs.Outcome.{Outcome};
-ghost use Rattle.desk.specs.Shown.{deposited_as};
-ghost use Rattle.desk.specs.Texts.{gives_certificate};
-ghost use Rattle.desk.specs.auxiliary.Wholes.{answer_by};
+ghost use Rattle.desk.specs.{Answers.answered, Answers.ended_as, Calls.settings_view, Calls.why_of, Command.Deposit};
+ghost use Rattle.desk.specs.{Effects.for_deposit, Effects.in_deposit, Fault.IsOfDeposit, auxiliary.Kept.kept_as};
+ghost use Rattle.desk.specs.{Outcome.Outcome, Shown.deposited_as, Texts.gives_certificate, auxiliary.Wholes.answer_by};
 
 use crate::fault::Fault;
 use crate::findings::Requested;

@@ -13,8 +13,7 @@ pub struct Pending<'p> {
 impl<'p> Model for Pending<'p> {
     ghost use Rattle.std.specs.Prelude.{◌≡◌};
     ghost use Rattle.cms.specs.SignedData.{attribute_text};
-    ghost use Rattle.desk.specs.Command.{PendingValue};
-    ghost use Rattle.desk.specs.WaitingStamps.{pending_by};
+    ghost use Rattle.desk.specs.{Command.PendingValue, WaitingStamps.pending_by};
 
     ghost Value = { PendingValue };
 

@@ -6,7 +6,7 @@ use crate::completion::WrittenBatch;
 use crate::fault::Fault;
 use crate::reply::Reply;
 use crate::settings::Settings;
-use crate::waiting_stamp::Waiting;
+use crate::waiting_stamp::WaitingStamp;
 use std::alloc::Global;
 use tsp::Rule;
 
@@ -17,7 +17,7 @@ pub(crate) struct PendingBatch<'p, 'a> {
     /// For each stamp the rule by which it is rejected, or none, where it waits.
     pub(crate) verdicts: Vec<Option<Rule>>,
     /// Those that wait, in their order.
-    pub(crate) waits: Vec<Waiting<'p, 'a>>,
+    pub(crate) waits: Vec<WaitingStamp<'p, 'a>>,
     pub(crate) written: WrittenBatch,
     pub(crate) replies: Vec<Reply>,
 }
@@ -53,7 +53,7 @@ pub(crate) fn empty_batch<'p, 'a>(
 }
 
 /// The texts to sign. The caller has taken the room for them.
-pub(crate) fn texts_of<'w>(waits: &'w [Waiting<'_, '_>], room: Vec<&'w [u8]>) -> Vec<&'w [u8]>
+pub(crate) fn texts_of<'w>(waits: &'w [WaitingStamp<'_, '_>], room: Vec<&'w [u8]>) -> Vec<&'w [u8]>
     requires empty { room.items ≡ [] }
     requires room { length waits.now ≤ vec_capacity room }
     ensures texts { map (λ text. text.now) result.items ≡ map (λ waiting. waiting.unsigned.text.items) waits.now }

@@ -2,14 +2,10 @@
 ghost use Rattle.std.specs.Prelude.{◌≡◌, ◌≤◌, ℕ, List, length, option_map, IfOk, IfErr, IfSome};
 ghost use Rattle.gentime.specs.GenTime.{last_moment};
 ghost use Rattle.der.specs.DataValueView.{value_view};
-ghost use Rattle.tsp.specs.Request.{Spells};
-ghost use Rattle.tsp.specs.Tst.{IsTsaName};
-ghost use Rattle.tsp.specs.View.{request_view};
-ghost use Rattle.desk.specs.Calls.{plan_of, settings_view, why_of};
+ghost use Rattle.tsp.specs.{Request.Spells, Tst.IsTsaName, View.request_view};
 ghost use Rattle.desk.specs.auxiliary.Beginnings.{WaitsFor, IsUnwritten, IsReserved};
-ghost use Rattle.desk.specs.auxiliary.NewDeposit.{FailsLate};
-ghost use Rattle.desk.specs.Succession.{tsa_of};
-ghost use Rattle.desk.specs.auxiliary.Verdicts.{HasItsText, verdict_of};
+ghost use Rattle.desk.specs.{Calls.plan_of, Calls.settings_view, Calls.why_of, auxiliary.NewDeposit.FailsLate};
+ghost use Rattle.desk.specs.{Succession.tsa_of, auxiliary.Verdicts.HasItsText, auxiliary.Verdicts.verdict_of};
 
 use crate::commit::add;
 use crate::findings::Planned;
@@ -17,7 +13,7 @@ use crate::pending::Pending;
 use crate::refusal::StampRefusal;
 use crate::settings::Settings;
 use crate::unsigned_token::UnsignedToken;
-use crate::waiting_stamp::{Waiting, reservation_of};
+use crate::waiting_stamp::{WaitingStamp, reservation_of};
 use book::{Book, Entry, GREATEST_NUMBER};
 use cms::attribute_text;
 use der::DataValue;
@@ -55,7 +51,7 @@ pub(crate) fn prepare<'p, 'a>(
     account: &'a str,
     query: Option<&'a [u8]>,
     planned: Planned<'p, 'a>,
-) -> Result<Waiting<'p, 'a>, StampRefusal>
+) -> Result<WaitingStamp<'p, 'a>, StampRefusal>
     requires spelled { IfSome query (λ q. Spells q.now (request_view planned.request)) }
     requires short { IfSome query (λ q. length q.now ≤ 65536) }
     ensures waits { (octets : List ℕ) → IfSome query.entry (λ q. q.now ≡ octets) → IfOk result (WaitsFor
@@ -97,7 +93,7 @@ pub(crate) fn prepare<'p, 'a>(
     let Ok(text) = attribute_text(alloc, settings.identity, &tst) else {
         return Err(StampRefusal::OutOfMemory);
     };
-    Ok(Waiting {
+    Ok(WaitingStamp {
         account,
         query,
         gen_time: micros,
@@ -117,7 +113,7 @@ pub(crate) fn prepare<'p, 'a>(
 pub(crate) fn reserve<'p, B: Book + Drop>(
     store: &mut B,
     settings: Settings<'p>,
-    judged: Result<Waiting<'p, '_>, StampRefusal>,
+    judged: Result<WaitingStamp<'p, '_>, StampRefusal>,
 ) -> Result<Pending<'p>, StampRefusal>
     requires text { HasItsText (settings_view settings) (verdict_of judged) }
     ensures honest { B.honest store.new → B.honest store.old }

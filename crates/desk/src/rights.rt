@@ -1,18 +1,12 @@
 //! Who gives and takes rights.
 ghost use Rattle.std.specs.Prelude.{◌≡◌, None, IfErr, MatchResult};
 ghost use Rattle.policy.specs.View.{account_view, policy_view};
-ghost use Rattle.book.specs.Entries.{entry_view, reader_view};
-ghost use Rattle.book.specs.History.{History};
-ghost use Rattle.book.specs.Stands.{Stands, OnlyLooks};
-ghost use Rattle.desk.specs.Asked.{right_command, right_entry};
-ghost use Rattle.desk.specs.CallContract.{StepsBy, no_signer};
-ghost use Rattle.desk.specs.Calls.{settings_view};
-ghost use Rattle.desk.specs.Effects.{has_account, has_group, objection};
-ghost use Rattle.desk.specs.Fault as refused;
+ghost use Rattle.book.specs.{Entries.entry_view, Entries.reader_view, History.History, Stands.Stands, Stands.OnlyLooks};
 ghost use Rattle.desk.specs.auxiliary.Obstacles.{fault_with, outcome_with, told_with, IsOfRight, IsOpposed};
-ghost use Rattle.desk.specs.auxiliary.Obstacles.{MayName, MayNot};
-ghost use Rattle.desk.specs.Outcome.{faults_after};
-ghost use Rattle.desk.specs.Shown.{done_as};
+ghost use Rattle.desk.specs.{Asked.right_command, Asked.right_entry, CallContract.StepsBy, CallContract.no_signer};
+ghost use Rattle.desk.specs.{Effects.has_account, Effects.has_group, Effects.objection, auxiliary.Obstacles.MayName};
+ghost use Rattle.desk.specs.{auxiliary.Obstacles.MayNot, Calls.settings_view, Outcome.faults_after, Shown.done_as};
+ghost use Rattle.desk.specs.Fault as refused;
 
 use crate::fault::Fault;
 use crate::obstacle::Obstacle;

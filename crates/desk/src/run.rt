@@ -1,13 +1,10 @@
 //! Commands one after the other.
 ghost use Rattle.std.specs.Prelude.{◌≡◌, List, IfOk, IfErr, OnErr};
-ghost use Rattle.desk.specs.Answers.{answered};
 ghost use Rattle.desk.specs.Asked.{command_view, answer_view, commands_view, answers_view};
 ghost use Rattle.desk.specs.Calls.{settings_view, or_before, succeeded_as};
-ghost use Rattle.desk.specs.auxiliary.Obstacles.{told_with};
-ghost use Rattle.desk.specs.Outcome.{Outcome};
 ghost use Rattle.desk.specs.RunContract.{AreSteps, IsRun, Obeys};
 ghost use Rattle.desk.specs.Shown.{deposited_as, shown_as, listed_as, done_as, numbered_as};
-ghost use Rattle.desk.specs.MachineRuns.{IsProper};
+ghost use Rattle.desk.specs.{Answers.answered, auxiliary.Obstacles.told_with, Outcome.Outcome, MachineRuns.IsProper};
 
 use crate::additions::{calibrate_by, hold_by};
 use crate::batch::Asked;

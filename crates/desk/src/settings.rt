@@ -1,11 +1,8 @@
 //! By what a desk answers.
-ghost use Rattle.std.specs.Prelude.{◌≤◌, map};
-ghost use Rattle.std.specs.List.{AllByRecursion};
+ghost use Rattle.std.specs.{Prelude.◌≤◌, Prelude.map, List.AllByRecursion};
 ghost use Rattle.der.specs.ObjectIdentifier.{IsOid};
 ghost use Rattle.policy.specs.View.{tsa_policy_view};
-ghost use Rattle.desk.specs.Calls.{settings_view};
-ghost use Rattle.desk.specs.MachineRuns.{IsProper};
-ghost use Rattle.desk.specs.Succession.{HasSubject};
+ghost use Rattle.desk.specs.{Calls.settings_view, MachineRuns.IsProper, Succession.HasSubject};
 
 use cms::{Algorithm, Identity};
 use policy::{Counter, Policy, TsaPolicy};

@@ -2,20 +2,14 @@
 ghost use Rattle.std.specs.Prelude.{◌≡◌, ◌⊎◌, map, option_map, IfOk, IfErr, MatchResult};
 ghost use Rattle.std.specs.Io.KnownBytes.{Keeps};
 ghost use Rattle.policy.specs.View.{account_view, policy_view};
-ghost use Rattle.book.specs.Fault.{CountsFaults, IsOfStorage};
-ghost use Rattle.book.specs.History.{History};
-ghost use Rattle.book.specs.Rights.{listed};
-ghost use Rattle.book.specs.Stands.{Stands, OnlyLooks};
-ghost use Rattle.book.specs.Values.{listed_view, stamp_view};
-ghost use Rattle.desk.specs.CallContract.{StepsBy, no_signer};
-ghost use Rattle.desk.specs.Calls.{settings_view};
+ghost use Rattle.book.specs.{Fault.CountsFaults, Fault.IsOfStorage, History.History, Rights.listed, Stands.Stands};
+ghost use Rattle.book.specs.{Stands.OnlyLooks, Values.listed_view, Values.stamp_view};
 ghost use Rattle.desk.specs.Command.{Show, Token, ListAll};
-ghost use Rattle.desk.specs.Fault as sight;
 ghost use Rattle.desk.specs.auxiliary.Obstacles.{fault_with, outcome_with, told_with, token_in};
 ghost use Rattle.desk.specs.auxiliary.Obstacles.{IsOfSight, Sees, IsUnseen};
-ghost use Rattle.desk.specs.Outcome.{faults_after};
-ghost use Rattle.desk.specs.Shown.{shown_as, listed_as};
-ghost use Rattle.desk.specs.Viewers.{viewer_in};
+ghost use Rattle.desk.specs.{CallContract.StepsBy, CallContract.no_signer, Calls.settings_view, Outcome.faults_after};
+ghost use Rattle.desk.specs.{Shown.shown_as, Shown.listed_as, Viewers.viewer_in};
+ghost use Rattle.desk.specs.Fault as sight;
 
 use crate::fault::Fault;
 use crate::obstacle::Obstacle;

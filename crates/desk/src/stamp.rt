@@ -1,18 +1,11 @@
 //! A stamp from its request to its reply.
 ghost use Rattle.std.specs.Prelude.{◌≡◌, IfOk};
 ghost use Rattle.policy.specs.View.{policy_view};
-ghost use Rattle.tsp.specs.Granted.{granted_octets};
-ghost use Rattle.tsp.specs.Rules.{IsFirstFailing};
-ghost use Rattle.tsp.specs.declared.rule.Rule.{Rule};
+ghost use Rattle.tsp.specs.{Granted.granted_octets, Rules.IsFirstFailing, declared.rule.Rule.Rule};
 ghost use Rattle.decide.specs.View.{account_asked};
-ghost use Rattle.desk.specs.Answers.{reply_as, ended_as};
-ghost use Rattle.desk.specs.CallContract.{IsBareStep, with_signer};
-ghost use Rattle.desk.specs.Calls.{settings_view};
-ghost use Rattle.desk.specs.Command.{Stamp, Rejected};
-ghost use Rattle.desk.specs.Effects.{for_reply, in_seal};
-ghost use Rattle.desk.specs.Findings.{HoldsUnasked};
-ghost use Rattle.desk.specs.auxiliary.Kept.{kept_as};
-ghost use Rattle.desk.specs.auxiliary.Wholes.{answer_by};
+ghost use Rattle.desk.specs.{Answers.reply_as, Answers.ended_as, CallContract.IsBareStep, CallContract.with_signer};
+ghost use Rattle.desk.specs.{Calls.settings_view, Command.Stamp, Command.Rejected, Effects.for_reply, Effects.in_seal};
+ghost use Rattle.desk.specs.{Findings.HoldsUnasked, auxiliary.Kept.kept_as, auxiliary.Wholes.answer_by};
 
 use crate::batch::Asked;
 use crate::keeping::Keeping;

@@ -1,14 +1,10 @@
 //! A stamp from its reservation on.
 ghost use Rattle.std.specs.Prelude.{◌≡◌, ◌≤◌, Ok, Err, length, IfOk, IfErr};
-ghost use Rattle.desk.specs.Answers.{reply_as, ended_as};
-ghost use Rattle.desk.specs.Calls.{outcome_of, why_of};
-ghost use Rattle.tsp.specs.Granted.{granted_octets};
-ghost use Rattle.tsp.specs.declared.rule.Rule.TheVariants.{System};
-ghost use Rattle.desk.specs.CallContract.{with_signer};
-ghost use Rattle.desk.specs.Command.{Rejected};
 ghost use Rattle.desk.specs.auxiliary.Kept.{keeping_view, kept_as};
-ghost use Rattle.desk.specs.auxiliary.NewDeposit.{FailsLate};
 ghost use Rattle.desk.specs.auxiliary.Wholes.{IsOfFinish, Ends, CompletesBegun};
+ghost use Rattle.desk.specs.{Answers.reply_as, Answers.ended_as, Calls.outcome_of, Calls.why_of};
+ghost use Rattle.desk.specs.{CallContract.with_signer, Command.Rejected, auxiliary.NewDeposit.FailsLate};
+ghost use Rattle.tsp.specs.{Granted.granted_octets, declared.rule.Rule.TheVariants.System};
 
 use crate::commit::add;
 use crate::keeping::{Keeping, entry_with};

@@ -1,18 +1,11 @@
 //! A stamp up to its reservation.
 ghost use Rattle.std.specs.Prelude.{◌≡◌, ◌⊎◌, ℕ, ◌≤◌, List, length, IfSome, IfErr};
-ghost use Rattle.tsp.specs.Request.{Spells};
-ghost use Rattle.tsp.specs.Rules.{HasVersionOne};
-ghost use Rattle.tsp.specs.View.{request_view};
+ghost use Rattle.tsp.specs.{Request.Spells, Rules.HasVersionOne, View.request_view};
 ghost use Rattle.decide.specs.View.{account_asked};
-ghost use Rattle.desk.specs.Answers.{begun_as, answered, ended_as};
-ghost use Rattle.desk.specs.auxiliary.Beginnings.{IsOfBeginning};
-ghost use Rattle.desk.specs.Calls.{settings_view, why_of};
-ghost use Rattle.desk.specs.Command.{Begun as SpecBegun};
-ghost use Rattle.desk.specs.Effects.{for_parts, name_of};
-ghost use Rattle.desk.specs.auxiliary.NewDeposit.{FailsLate};
-ghost use Rattle.desk.specs.Together.{question_view, question_with};
-ghost use Rattle.desk.specs.auxiliary.Verdicts.{JudgesAs};
-ghost use Rattle.desk.specs.auxiliary.Wholes.{answer_by};
+ghost use Rattle.desk.specs.{Answers.begun_as, Answers.answered, Answers.ended_as, auxiliary.Beginnings.IsOfBeginning};
+ghost use Rattle.desk.specs.{Calls.settings_view, Calls.why_of, Command.Begun as SpecBegun, Effects.for_parts};
+ghost use Rattle.desk.specs.{Effects.name_of, auxiliary.NewDeposit.FailsLate, Together.question_view};
+ghost use Rattle.desk.specs.{Together.question_with, auxiliary.Verdicts.JudgesAs, auxiliary.Wholes.answer_by};
 
 use crate::batch::Asked;
 use crate::fault::Fault;
@@ -22,7 +15,7 @@ use crate::refusal::StampRefusal;
 use crate::reply::Begun;
 use crate::reservation::prepare;
 use crate::settings::Settings;
-use crate::waiting_stamp::Waiting;
+use crate::waiting_stamp::WaitingStamp;
 use book::Book;
 use policy::Account;
 use std::alloc::Global;
@@ -44,10 +37,10 @@ pub(crate) fn judge_read<'p, 'a, B: Book + Drop>(
     store: &mut B,
     alloc: Global,
     settings: Settings<'p>,
-    waits: &[Waiting<'_, '_>],
+    waits: &[WaitingStamp<'_, '_>],
     requested: Requested<'a, 'a>,
     query: Option<&'a [u8]>,
-) -> Result<Waiting<'p, 'a>, StampRefusal>
+) -> Result<WaitingStamp<'p, 'a>, StampRefusal>
     requires spelled { IfSome query (λ q. Spells q.now (request_view requested.request)) }
     requires short { IfSome query (λ q. length q.now ≤ 65536) }
     ensures judges { (octets : List ℕ) → Spells octets (request_view requested.entry.request) → length octets ≤ 65536
@@ -66,9 +59,9 @@ pub(crate) fn judge_one<'p, 'a, B: Book + Drop>(
     store: &mut B,
     alloc: Global,
     settings: Settings<'p>,
-    waits: &[Waiting<'_, '_>],
+    waits: &[WaitingStamp<'_, '_>],
     asked: Asked<'a>,
-) -> Result<Waiting<'p, 'a>, StampRefusal>
+) -> Result<WaitingStamp<'p, 'a>, StampRefusal>
     ensures { JudgesAs B.Standing (settings_view settings.entry) (question_view asked.entry) waits.now result store.old
         store.new }
 {

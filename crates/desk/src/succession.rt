@@ -1,18 +1,13 @@
 //! Which identity is in force: an opening and a succession install it.
 ghost use Rattle.std.specs.Prelude.{◌≡◌, ◌⊎◌, [], ◌∷◌, ℕ, List, Some, map, IfOk, IfErr, OnOk};
-ghost use Rattle.book.specs.Entries.{Appends};
-ghost use Rattle.book.specs.Fault.{CountsFaults, IsOfStorage};
-ghost use Rattle.book.specs.History.{History, Installed};
 ghost use Rattle.book.specs.Identities.{identities, latest_identity, installed_as};
-ghost use Rattle.book.specs.Stands.{Stands, OnlyLooks};
-ghost use Rattle.book.specs.Values.{identity_view};
-ghost use Rattle.desk.specs.Answers.{answered};
+ghost use Rattle.book.specs.{Entries.Appends, Fault.CountsFaults, Fault.IsOfStorage, History.History};
+ghost use Rattle.book.specs.{History.Installed, Stands.Stands, Stands.OnlyLooks, Values.identity_view};
 ghost use Rattle.desk.specs.CallContract.{StepsBy, IsStep, StandsInForce, no_signer};
 ghost use Rattle.desk.specs.Calls.{in_force_of, settings_view, succeeded_as};
-ghost use Rattle.desk.specs.Command.{Setting, Succeed};
 ghost use Rattle.desk.specs.auxiliary.Obstacles.{fault_with, outcome_with, told_with};
-ghost use Rattle.desk.specs.Shown.{done_as};
 ghost use Rattle.desk.specs.Succession.{installed_by, is_latest, HasSubject};
+ghost use Rattle.desk.specs.{Answers.answered, Command.Setting, Command.Succeed, Shown.done_as};
 
 use crate::desk::Desk;
 use crate::fault::Fault;

@@ -1,10 +1,8 @@
 //! A token before its signature, and what is written over that.
 ghost use Rattle.std.specs.Prelude.{◌≡◌, ◌≤◌, Ok, length};
 ghost use Rattle.tsp.specs.Granted.{granted_octets};
-ghost use Rattle.desk.specs.Answers.{reply_as};
-ghost use Rattle.desk.specs.Command.{Stamped};
 ghost use Rattle.desk.specs.auxiliary.Completions.{IsWritten};
-ghost use Rattle.desk.specs.WaitingStamps.{pending_by};
+ghost use Rattle.desk.specs.{Answers.reply_as, Command.Stamped, WaitingStamps.pending_by};
 
 use crate::reply::Reply;
 use cms::{Algorithm, Identity, token};

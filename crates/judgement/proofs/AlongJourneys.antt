@@ -1,20 +1,13 @@
 -- Along each journey, what is reserved is given by the rules.
 use Rattle.std.proofs.Common.{◌≡◌, ℕ, zero, suc, ◌≤◌, ◌+◌, ℤ, pos, ◌≤ℤ◌, Bool, true, false, List, [], ◌∷◌, ◌++◌}
 use Rattle.std.proofs.Common.{drop, reverse, ◌⊎◌, inl, inr, length, Contains, Option, Some, None, refl, sym, ap, ◌∙◌}
-use Rattle.std.proofs.Common.{subst, arith, length-append}
-use Rattle.std.specs.Prelude.{IfSome}
-use Rattle.std.specs.List.{AllByRecursion}
-use Rattle.std.specs.Option.{option_to_list}
-use Rattle.std.proofs.lemmas.List.Elements.{filter_map-append}
-use Rattle.policy.specs.Record.{AccountValue, PolicyValue}
-use Rattle.policy.specs.Sound.{IsSound as IsSoundFile}
+use Rattle.std.proofs.{Common.subst, Common.arith, Common.length-append, lemmas.List.Elements.filter_map-append}
+use Rattle.std.specs.{Prelude.IfSome, List.AllByRecursion, Option.option_to_list}
+use Rattle.policy.specs.{Record.AccountValue, Record.PolicyValue, Sound.IsSound as IsSoundFile}
 use Rattle.book.specs.History.{Entry, Reserved, Calibrated, Held, Granted, Revoked, Installed}
 use Rattle.book.specs.History.{CalibrationValue, History, HoldValue, ReservationValue, calibrations, hold_in, holds}
-use Rattle.book.specs.History.{latest_calibration, token_of}
-use Rattle.book.specs.Identities.{latest_identity}
-use Rattle.book.specs.Rights.{listed, seen_by}
-use Rattle.book.specs.Rows.{DepositRow}
-use Rattle.book.specs.Sound.{IsSound, greatest_number, is_backwards}
+use Rattle.book.specs.{History.latest_calibration, History.token_of, Identities.latest_identity, Rights.listed}
+use Rattle.book.specs.{Rights.seen_by, Rows.DepositRow, Sound.IsSound, Sound.greatest_number, Sound.is_backwards}
 use Rattle.desk.specs.Command.{InForce, Setting, Command, Stamp, Begin, Finish, Abandon, Deposit, Show, Token, ListAll}
 use Rattle.desk.specs.Command.{Grant, Revoke, Calibrate, Hold, Succeed, Shown, Listed, Refused}
 use Rattle.desk.specs.Effects.{Effect, only, for_reply, for_deposit, name_of, no_number, no_seal, no_sight}
@@ -23,18 +16,13 @@ use Rattle.desk.specs.Effects.{token_effect, reply_or_nothing, calibrate_effect,
 use Rattle.desk.specs.Findings.{StampPlan, Finding, Finds, Allowed, IsAllowed}
 use Rattle.desk.specs.MachineRuns.{HasProperties, IsProper, IsEntering, Told, Journey, begins, opens, opens_older}
 use Rattle.desk.specs.MachineRuns.{shuts, rests, enters, breaks, goes, stops, continues}
-use Rattle.desk.specs.MachineStep.{HasEffect}
-use Rattle.desk.specs.Outcome.{Outcome, Cause, cause_of}
-use Rattle.desk.specs.Succession.{IsNameable, installed_by, is_latest}
-use Rattle.desk.specs.Texts.{octets_for}
-use Rattle.desk.specs.Viewers.{viewer_in}
+use Rattle.desk.specs.{MachineStep.HasEffect, Outcome.Outcome, Outcome.Cause, Outcome.cause_of, Succession.IsNameable}
+use Rattle.desk.specs.{Succession.installed_by, Succession.is_latest, Texts.octets_for, Viewers.viewer_in}
 use Rattle.desk.specs.declared.fault.Fault.TheVariants as fault
 use Rattle.desk.proofs.journeys.Branches.{if_has, unless_has, right_has, stamp_has, deposit_has}
-use Rattle.judgement.specs.Given.{IsGivenByRules}
 use Rattle.judgement.specs.Journeys.{AreGivenByRules, IsInOrder, KeepsTo, begun_with, reading_in}
-use Rattle.judgement.specs.Readings.{evidence_in, is_held_by}
 use Rattle.judgement.specs.Journeys.{readings_of, row_in, rows_before}
-use Rattle.judgement.specs.Past.{before_of}
+use Rattle.judgement.specs.{Given.IsGivenByRules, Readings.evidence_in, Readings.is_held_by, Past.before_of}
 use Rattle.judgement.proofs.Reserved.{Laws, given_by}
 
 -- a stamp was allowed at one of the readings, and this is what was reserved for it

@@ -1,26 +1,20 @@
 -- Readings and the clock: the first reading is the best.
 use Rattle.std.proofs.Common.{◌≡◌, ℕ, suc, ◌<◌, ◌≤◌, ◌+◌, ◌-◌, ◌*◌, ◌/◌, ◌%◌, ◌^◌, ℤ, pos, negsuc, List, [], ◌∷◌}
-use Rattle.std.proofs.Common.{drop, map, Option, Some, None, Bool, true, false, ◌&&◌, refl, sym, ap, ◌∙◌, subst, inl, inr}
-use Rattle.std.proofs.Common.{find, arith}
+use Rattle.std.proofs.Common.{drop, map, Option, Some, None, Bool, true, false, ◌&&◌, refl, sym, ap, ◌∙◌, subst, inl}
+use Rattle.std.proofs.Common.{inr}
+use Rattle.std.proofs.Math.Nat.{div-mul-le_self, div-eq_of_lt-le, mul-le-mul_right, one-le-pow, mul-div_cancel}
+use Rattle.std.proofs.{Common.find, Common.arith, lemmas.Bool.or_right, lemmas.Bool.true≢false, lemmas.Int.ints}
+use Rattle.std.proofs.{lemmas.Int.by_lt_z, lemmas.Nat.le-div, lemmas.Option.same_Some, lemmas.Option.none-some}
 use Rattle.std.specs.List.{list_any}
 use Rattle.std.specs.Prelude.{◌≤ℤ◌, ◌<ℤ◌, ◌+ℤ◌, ◌-ℤ◌, IfSome, int_le, int_lt, is_some, length}
-use Rattle.std.proofs.lemmas.Bool.{or_right, true≢false}
-use Rattle.std.proofs.lemmas.Int.{ints, by_lt_z}
-use Rattle.std.proofs.lemmas.Nat.{le-div}
-use Rattle.std.proofs.lemmas.Option.{same_Some, none-some}
-use Rattle.std.proofs.Math.Nat.{div-mul-le_self, div-eq_of_lt-le, mul-le-mul_right, one-le-pow, mul-div_cancel}
 use Rattle.policy.specs.Record.{CounterValue}
 use Rattle.book.specs.History.{CalibrationValue, HoldValue, first_of}
-use Rattle.book.specs.Sound.{greatest_number}
-use Rattle.book.specs.Values.{hold_view}
-use Rattle.book.specs.declared.values.Hold.{Hold}
+use Rattle.book.specs.{Sound.greatest_number, Values.hold_view, declared.values.Hold.Hold}
 use Rattle.decide.specs.Clock.{now_at, at_least_zero, elapsed, deviation, step, gen_time, Follows, IsGood}
-use Rattle.decide.specs.declared.facts.Calibration.{Calibration}
-use Rattle.decide.specs.declared.facts.ClockFacts.{ClockFacts}
+use Rattle.decide.specs.{declared.facts.Calibration.Calibration, declared.facts.ClockFacts.ClockFacts}
 use Rattle.judgement.specs.Readings.{EvidenceValue, IsReadUnder, IsOfSome, IsClockUnder, calibration_of, is_held_by}
-use Rattle.judgement.specs.Readings.{clock_at, uncalibrated}
 use Rattle.judgement.specs.auxiliary.Search.{IsFirstFree, IsFirstReading, IsFreeReading, IsGoodClock, IsGoodClockUnder}
-use Rattle.judgement.specs.auxiliary.Search.{IsGoodUnder}
+use Rattle.judgement.specs.{Readings.clock_at, Readings.uncalibrated, auxiliary.Search.IsGoodUnder}
 
 -- ---- rounding
 

@@ -2,18 +2,14 @@
 use Rattle.std.proofs.Common.{◌≡◌, ℕ, ◌≤◌, ℤ, Bool, true, false, List, length, Option, Some, None, refl, sym, ap, ◌∙◌}
 use Rattle.std.proofs.Common.{option_map, subst}
 use Rattle.std.specs.Prelude.{◌↔◌, IsTrue, is_some}
-use Rattle.der.specs.Node.{Node}
-use Rattle.der.specs.Number.{number_content, twos_value}
-use Rattle.der.specs.ObjectIdentifier.{oid_content}
+use Rattle.der.specs.{Node.Node, Number.number_content, Number.twos_value, ObjectIdentifier.oid_content}
 use Rattle.tsp.specs.Request.{ImprintValue, ExtensionValue, RequestValue, Spells}
 use Rattle.tsp.specs.Tst.{TstValue, SpellsTst, answer}
 use Rattle.audit.specs.Consistent.{IsConsistent, IsOwnName}
-use Rattle.book.specs.Identities.{identity_before}
-use Rattle.book.specs.Rows.{InstalledRow, StampRow}
+use Rattle.book.specs.{Identities.identity_before, Rows.InstalledRow, Rows.StampRow}
 use Rattle.decide.specs.Verdict.{PlanValue}
-use Rattle.judgement.specs.Given.{IsStampBy, Names}
-use Rattle.judgement.specs.Readings.{EvidenceValue}
 use Rattle.judgement.specs.auxiliary.Search.{HasColumns, IsAnswerBy}
+use Rattle.judgement.specs.{Given.IsStampBy, Given.Names, Readings.EvidenceValue}
 
 names : (wanted : Bool) (identity : Option InstalledRow) (tsa : Option Node) → is_some tsa ≡ wanted
     → IsOwnName identity tsa → Names wanted identity tsa

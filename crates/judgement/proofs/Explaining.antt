@@ -2,9 +2,7 @@
 use Rattle.std.proofs.Common.{◌≡◌, ◌∙◌, ℕ, List, [], ◌++◌, Option, Some, None, Result, Ok, Err, ap, append_assoc}
 use Rattle.std.proofs.Common.{option_map, subst, sym}
 use Rattle.std.specs.Prelude.{IfOk, IfSome, MatchOption, OnOk}
-use Rattle.der.specs.DataValueView.{value_view}
-use Rattle.der.specs.Node.{Node}
-use Rattle.der.specs.declared.data_value.DataValue.{DataValue}
+use Rattle.der.specs.{DataValueView.value_view, Node.Node, declared.data_value.DataValue.DataValue}
 use Rattle.cms.specs.Certificate.{IsSubject}
 use Rattle.book.specs.Rows.{InstalledRow}
 use Rattle.judgement.specs.Explanation.{IsSubjectOf}

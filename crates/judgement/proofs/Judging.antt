@@ -1,32 +1,25 @@
 -- From the facts by which the rules come furthest to what is found of a stamp.
 use Rattle.std.proofs.Common.{◌≡◌, ℕ, ◌<◌, ◌≤◌, ℤ, List, [], ◌∷◌, length, Option, Some, None, Bool, false, refl}
 use Rattle.std.proofs.Common.{sym, ap, ◌∙◌, subst, inl, inr, arith}
-use Rattle.std.specs.Prelude.{◌↔◌, ◌⊎◌}
 use Rattle.std.proofs.lemmas.Option.{same_Some}
+use Rattle.std.specs.Prelude.{◌↔◌, ◌⊎◌}
 use Rattle.der.specs.ObjectIdentifier.{oid_content}
 use Rattle.gentime.specs.GenTime.{day_of}
 use Rattle.policy.specs.Record.{AccountValue, PolicyValue}
-use Rattle.tsp.specs.Rejection.{number_of}
-use Rattle.tsp.specs.Request.{RequestValue, Spells}
-use Rattle.tsp.specs.Rules.{IsFirstFailing, IsSpelled}
-use Rattle.tsp.specs.Tst.{SpellsTst, answer}
-use Rattle.tsp.specs.declared.rule.Rule.{Rule}
 use Rattle.tsp.specs.declared.rule.Rule.TheVariants.{Spelling, Clock, Quota}
-use Rattle.book.specs.History.{CalibrationValue}
-use Rattle.book.specs.Rows.{StampRow}
-use Rattle.decide.specs.Clock.{now_at, gen_time, IsGood}
-use Rattle.decide.specs.Rules.{Holds, IsWithinQuota, policy_asked}
+use Rattle.tsp.specs.{Rejection.number_of, Request.RequestValue, Request.Spells, Rules.IsFirstFailing, Rules.IsSpelled}
+use Rattle.tsp.specs.{Tst.SpellsTst, Tst.answer, declared.rule.Rule.Rule}
+use Rattle.book.specs.{History.CalibrationValue, Rows.StampRow}
 use Rattle.decide.specs.Verdict.{PlanValue, IsVerdict, Allowed}
-use Rattle.decide.specs.declared.facts.ClockFacts.{ClockFacts}
-use Rattle.decide.specs.declared.facts.Facts.{Facts}
+use Rattle.decide.specs.{Clock.now_at, Clock.gen_time, Clock.IsGood, Rules.Holds, Rules.IsWithinQuota}
+use Rattle.decide.specs.{Rules.policy_asked, declared.facts.ClockFacts.ClockFacts, declared.facts.Facts.Facts}
 use Rattle.judgement.specs.Given.{IsGivenByRules, IsStampBy, account_of}
 use Rattle.judgement.specs.Judged.{HoldsFor, FailsFurthest, IsJudgedAs}
 use Rattle.judgement.specs.Readings.{EvidenceValue, IsClockUnder, IsOfSome, IsPossible, IsCalibratedClock, unheld}
 use Rattle.judgement.specs.Readings.{ComesFurthest, calibration_of, is_held_by, uncalibrated}
 use Rattle.judgement.specs.auxiliary.Search.{IsGoodClock, IsGoodUnder}
-use Rattle.judgement.specs.declared.evidence.Before.{Before}
-use Rattle.judgement.specs.declared.judgement.Judgement.{Judgement}
 use Rattle.judgement.specs.declared.judgement.Judgement.TheVariants.{Given, MayHaveBeenHeld, Fails, Differs}
+use Rattle.judgement.specs.{declared.evidence.Before.Before, declared.judgement.Judgement.Judgement}
 use Rattle.judgement.proofs.Clocks.{some_map, good_rounds, uncalibrated_bad}
 
 -- ---- facts

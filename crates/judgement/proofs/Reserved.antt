@@ -2,56 +2,37 @@
 use Rattle.std.proofs.Common.{◌≡◌, ℕ, zero, suc, ◌<◌, ◌≤◌, ◌+◌, ◌-◌, ◌&&◌, ◌||◌, min, ℤ, pos, ◌≤ℤ◌, Bool, true, false}
 use Rattle.std.proofs.Common.{not, ◌^◌, List, [], ◌∷◌, ◌++◌, map, reverse, count_by, length, Contains, Option, Some}
 use Rattle.std.proofs.Common.{None, option_map, refl, sym, ap, ap₂, ◌∙◌, subst, inl, inr, arith, if◌then◌else◌}
-use Rattle.std.proofs.Common.{append_assoc, find}
-use Rattle.std.specs.Prelude.{IfSome}
-use Rattle.std.specs.List.{AllByRecursion, list_any}
-use Rattle.std.specs.Str.{bytes_eq}
-use Rattle.std.proofs.lemmas.Bool.{eq-eqb, le-leb}
-use Rattle.std.proofs.lemmas.List.{reverse-append, reverse-reverse}
-use Rattle.std.proofs.Math.Nat.{div-mul-le_self}
 use Rattle.std.proofs.lemmas.List.Elements.{All-contains, All-from_recursion, filter_map-append}
 use Rattle.std.proofs.lemmas.List.Sorted.{IsPermutation-reverse, list_any-IsPermutation}
-use Rattle.std.proofs.lemmas.List.Sums.{sum_by-append}
+use Rattle.std.proofs.{Common.append_assoc, Common.find, Math.Nat.div-mul-le_self, lemmas.List.Sums.sum_by-append}
+use Rattle.std.proofs.{lemmas.Bool.eq-eqb, lemmas.Bool.le-leb, lemmas.List.reverse-append, lemmas.List.reverse-reverse}
 use Rattle.std.specs.Cmp.Lexicographic.{nat_list_eq_equiv}
-use Rattle.der.specs.Node.{Node, IsLawful}
-use Rattle.der.specs.ObjectIdentifier.{IsOid}
+use Rattle.std.specs.{Prelude.IfSome, List.AllByRecursion, List.list_any, Str.bytes_eq}
+use Rattle.der.specs.{Node.Node, Node.IsLawful, ObjectIdentifier.IsOid}
 use Rattle.gentime.specs.GenTime.{day_of, last_moment}
-use Rattle.policy.specs.LookUp.{account_named}
-use Rattle.policy.specs.Record.{AccountValue}
-use Rattle.policy.specs.Sound.{IsSound as IsSoundFile, are_apart}
-use Rattle.tsp.specs.Request.{RequestValue, Spells}
+use Rattle.policy.specs.{LookUp.account_named, Record.AccountValue, Sound.IsSound as IsSoundFile, Sound.are_apart}
 use Rattle.tsp.specs.Tst.{IsTst, IsTsaName, SpellsTst, answer, tst_info}
-use Rattle.tsp.specs.declared.rule.Rule.{Rule}
 use Rattle.tsp.specs.declared.rule.Rule.TheVariants.{Spelling, Account, Policy}
+use Rattle.tsp.specs.{Request.RequestValue, Request.Spells, declared.rule.Rule.Rule}
 use Rattle.cms.specs.Certificate.{IsSubject, IsSubjectName}
 use Rattle.book.specs.History.{Reserved, History, ReservationValue, CalibrationValue, HoldValue, InstalledValue}
 use Rattle.book.specs.History.{first_of, calibrations, holds, reservations, latest_calibration, last_gen_time}
 use Rattle.book.specs.History.{count_of_day, reservation_at, calibration_in}
 use Rattle.book.specs.Identities.{identities, identity_at_reservation, identity_before, installed_as, latest_identity}
-use Rattle.book.specs.Rows.{InstalledRow, StampRow}
-use Rattle.book.specs.Sound.{IsSound, greatest_number}
-use Rattle.decide.specs.Clock.{now_at, gen_time, IsGood}
-use Rattle.decide.specs.Rules.{Holds, IsKnown}
-use Rattle.decide.specs.Verdict.{IsVerdict, Allowed}
-use Rattle.decide.specs.declared.facts.Calibration.{Calibration}
-use Rattle.decide.specs.declared.facts.ClockFacts.{ClockFacts}
-use Rattle.decide.specs.declared.facts.Facts.{Facts}
-use Rattle.desk.specs.Calls.{moment_or_last}
-use Rattle.desk.specs.Command.{Setting}
-use Rattle.desk.specs.Effects.{next_reservation, name_of}
+use Rattle.book.specs.{Rows.InstalledRow, Rows.StampRow, Sound.IsSound, Sound.greatest_number}
+use Rattle.decide.specs.{Clock.now_at, Clock.gen_time, Clock.IsGood, Rules.Holds, Rules.IsKnown, Verdict.IsVerdict}
+use Rattle.decide.specs.{Verdict.Allowed, declared.facts.Calibration.Calibration, declared.facts.ClockFacts.ClockFacts}
+use Rattle.decide.specs.{declared.facts.Facts.Facts}
 use Rattle.desk.specs.Facts.{clock_of, count_in, facts_of, gen_time_of, gen_time_in, is_held_at, now_in}
-use Rattle.desk.specs.Findings.{StampPlan, IsAllowed}
-use Rattle.desk.specs.MachineRuns.{IsProper}
 use Rattle.desk.specs.Succession.{IsNameable, installed_by, subject_of, tsa_of}
-use Rattle.desk.proofs.calls.Clocks.{last_within}
-use Rattle.desk.proofs.journeys.Given.{just_found}
+use Rattle.desk.specs.{Calls.moment_or_last, Command.Setting, Effects.next_reservation, Effects.name_of}
+use Rattle.desk.specs.{Findings.StampPlan, Findings.IsAllowed, MachineRuns.IsProper}
 use Rattle.desk.proofs.journeys.Views.{reservation_stays, identity_stays}
-use Rattle.judgement.specs.Given.{IsGivenByRules, Names}
+use Rattle.desk.proofs.{calls.Clocks.last_within, journeys.Given.just_found}
 use Rattle.judgement.specs.Journeys.{row_in, rows_before}
 use Rattle.judgement.specs.Readings.{evidence_in, IsReadUnder, IsOfSome, IsClockUnder, calibration_of, clock_at}
+use Rattle.judgement.specs.{Given.IsGivenByRules, Given.Names, Past.before_of, Readings.is_held_by}
 use Rattle.judgement.specs.Past as past
-use Rattle.judgement.specs.Past.{before_of}
-use Rattle.judgement.specs.Readings.{is_held_by}
 
 -- what is asked of the crates below
 pub record Laws : Type 0 where

@@ -3,11 +3,9 @@ use Rattle.std.proofs.Common.{◌≡◌, ℕ, pos, List, [], ◌∷◌, drop, co
 use Rattle.std.proofs.lemmas.Int.{ints}
 use Rattle.policy.specs.Record.{CounterValue, PolicyValue}
 use Rattle.book.specs.History.{CalibrationValue, Calibrated, History, Reserved, ReservationValue, Sealed}
-use Rattle.book.specs.History.{stamps_between}
-use Rattle.book.specs.Rows.{StampRow}
-use Rattle.judgement.specs.Journeys.{row_in, rows_before}
+use Rattle.book.specs.{History.stamps_between, Rows.StampRow}
 use Rattle.judgement.specs.Readings.{evidence_in, IsReadUnder, is_held_by}
-use Rattle.judgement.specs.Past.{before_of}
+use Rattle.judgement.specs.{Journeys.row_in, Journeys.rows_before, Past.before_of}
 
 abbrev counter : CounterValue
 counter = record {

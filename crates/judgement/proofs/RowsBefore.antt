@@ -1,17 +1,11 @@
 -- What rows say of a stamp, once one more is added.
 use Rattle.std.proofs.Common.{◌≡◌, ℕ, ◌+◌, ◌==◌, ◌&&◌, min, Bool, true, false, List, [], ◌∷◌, ◌++◌, Some, String, refl}
 use Rattle.std.proofs.Common.{ap, ◌∙◌, subst, arith, if◌then◌else◌, option_map, cond, Result, Ok, Err}
-use Rattle.std.specs.Prelude.{MatchResult}
+use Rattle.std.proofs.{lemmas.Bool.eqb-true, lemmas.List.reverse-append, lemmas.List.Sums.sum_by_push}
 use Rattle.std.specs.BTreeMap.{BTreeMap, get_by_text}
-use Rattle.std.specs.Map.{update}
-use Rattle.std.specs.Cmp.Lexicographic.{bytes_decides}
-use Rattle.std.specs.Str.{bytes_eq}
-use Rattle.std.proofs.lemmas.Bool.{eqb-true}
-use Rattle.std.proofs.lemmas.List.{reverse-append}
-use Rattle.std.proofs.lemmas.List.Sums.{sum_by_push}
+use Rattle.std.specs.{Prelude.MatchResult, Map.update, Cmp.Lexicographic.bytes_decides, Str.bytes_eq}
 use Rattle.gentime.specs.GenTime.{day_of, last_moment}
-use Rattle.book.specs.History.{first_of}
-use Rattle.book.specs.Rows.{StampRow}
+use Rattle.book.specs.{History.first_of, Rows.StampRow}
 use Rattle.judgement.specs.Past.{count_in, count_of, count_on, last_gen_time}
 
 pub last_added : (rows : List StampRow) (s : StampRow)

@@ -1,35 +1,26 @@
 -- How a stamp is explained: lines of a name and a value, of its row and its request, of the rules, of the clock, of who
 -- signs, and of how it is judged.
-use Rattle.std.specs.Prelude.{◌≡◌, ℕ, ◌+◌, ◌-◌, ◌<◌, ◌≤◌, ◌==◌, ℤ, ◌-ℤ◌, nat_le, if◌then◌else◌, Bool, true, false, List, [], ◌∷◌}
+use Rattle.std.specs.Prelude.{◌≡◌, ℕ, ◌+◌, ◌-◌, ◌<◌, ◌≤◌, ◌==◌, ℤ, ◌-ℤ◌, nat_le, if◌then◌else◌, Bool, true, false, List}
+use Rattle.std.specs.Prelude.{[], ◌∷◌}
 use Rattle.std.specs.Prelude.{◌++◌, codes, length, take, drop, Option, Some, None, option_map, IfSome, map}
-use Rattle.std.specs.Fmt.{decimal, signed_decimal}
-use Rattle.std.specs.List.{flat_map}
+use Rattle.std.specs.{Fmt.decimal, Fmt.signed_decimal, List.flat_map}
 use Rattle.hex.specs.Hex.{encode_lower}
 use Rattle.sha2.specs.Sha256.{sha256}
-use Rattle.der.specs.Node.{Node, encoding}
-use Rattle.der.specs.Number.{number_content}
-use Rattle.der.specs.ObjectIdentifier.{oid_content}
+use Rattle.der.specs.{Node.Node, Node.encoding, Number.number_content, ObjectIdentifier.oid_content}
 use Rattle.gentime.specs.GenTime.{day_of, last_moment, text_of}
 use Rattle.policy.specs.Record.{AccountValue, CounterValue}
-use Rattle.tsp.specs.Rejection.{number_of}
 use Rattle.tsp.specs.Request.{ExtensionValue, RequestValue, Spells}
-use Rattle.tsp.specs.declared.rule.Rule.{Rule}
 use Rattle.tsp.specs.declared.rule.Rule.TheVariants.{Spelling, Version, Account, Algorithm, HashLength, Policy}
 use Rattle.tsp.specs.declared.rule.Rule.TheVariants.{PolicyAlgorithm, Extensions, Certificate, Clock, Quota, System}
+use Rattle.tsp.specs.{Rejection.number_of, declared.rule.Rule.Rule}
 use Rattle.cms.specs.Certificate.{IsSubject}
-use Rattle.book.specs.Identities.{identity_before}
-use Rattle.book.specs.Rows.{InstalledRow, StampRow}
+use Rattle.book.specs.{Identities.identity_before, Rows.InstalledRow, Rows.StampRow}
 use Rattle.audit.specs.Extract.{identifier_text, moment_text, state_text}
-use Rattle.decide.specs.Clock.{deviation, step}
 use Rattle.decide.specs.declared.facts.Calibration.{Calibration}
-use Rattle.decide.specs.declared.facts.Facts.{Facts}
-use Rattle.judgement.specs.Given.{account_of}
-use Rattle.judgement.specs.Judged.{IsJudgedBehind}
-use Rattle.judgement.specs.Past.{before_of}
+use Rattle.decide.specs.{Clock.deviation, Clock.step, declared.facts.Facts.Facts}
 use Rattle.judgement.specs.Readings.{ComesFurthest, EvidenceValue, unheld}
-use Rattle.judgement.specs.Texts.{judgement_text}
-use Rattle.judgement.specs.declared.judgement.Judgement.{Judgement}
-use Rattle.judgement.specs.declared.judgement.Judgement.TheVariants.{Fails}
+use Rattle.judgement.specs.{Given.account_of, Judged.IsJudgedBehind, Past.before_of, Texts.judgement_text}
+use Rattle.judgement.specs.{declared.judgement.Judgement.Judgement, declared.judgement.Judgement.TheVariants.Fails}
 
 -- a name and its value on a line
 abbrev pub named : List ℕ → List ℕ → List ℕ

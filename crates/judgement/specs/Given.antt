@@ -1,19 +1,13 @@
 -- Which stamps are given by the rules of a policy file.
 use Rattle.std.specs.Prelude.{◌≡◌, ◌≤◌, Bool, true, false, length, Option, Some, None}
-use Rattle.der.specs.Node.{Node}
-use Rattle.der.specs.ObjectIdentifier.{oid_content}
+use Rattle.der.specs.{Node.Node, ObjectIdentifier.oid_content}
 use Rattle.gentime.specs.GenTime.{day_of}
-use Rattle.policy.specs.LookUp.{account_named}
-use Rattle.policy.specs.Record.{AccountValue}
-use Rattle.tsp.specs.Request.{RequestValue, Spells}
-use Rattle.tsp.specs.Tst.{SpellsTst, answer}
+use Rattle.policy.specs.{LookUp.account_named, Record.AccountValue}
+use Rattle.tsp.specs.{Request.RequestValue, Request.Spells, Tst.SpellsTst, Tst.answer}
 use Rattle.cms.specs.Certificate.{IsSubject}
-use Rattle.book.specs.Identities.{identity_before}
-use Rattle.book.specs.Rows.{InstalledRow, StampRow}
-use Rattle.decide.specs.Verdict.{PlanValue, IsVerdict, Allowed}
-use Rattle.decide.specs.declared.facts.Facts.{Facts}
-use Rattle.judgement.specs.Readings.{EvidenceValue, IsPossible}
-use Rattle.judgement.specs.declared.evidence.Before.{Before}
+use Rattle.book.specs.{Identities.identity_before, Rows.InstalledRow, Rows.StampRow}
+use Rattle.decide.specs.{Verdict.PlanValue, Verdict.IsVerdict, Verdict.Allowed, declared.facts.Facts.Facts}
+use Rattle.judgement.specs.{Readings.EvidenceValue, Readings.IsPossible, declared.evidence.Before.Before}
 
 -- the policy file's account of the stamp's name
 abbrev pub account_of : EvidenceValue → StampRow → Option AccountValue

@@ -1,18 +1,13 @@
 -- Journeys of the machine by one policy file, in which no calibration has an earlier reading than a stamp before it.
 use Rattle.std.specs.Prelude.{◌≡◌, ◌≤◌, ℤ, pos, ◌≤ℤ◌, List, [], ◌∷◌, ◌++◌, length, map, reverse, Option, Some, None}
-use Rattle.std.specs.List.{AllByRecursion}
-use Rattle.std.specs.Option.{option_to_list}
+use Rattle.std.specs.{List.AllByRecursion, Option.option_to_list}
 use Rattle.policy.specs.Record.{PolicyValue}
-use Rattle.book.specs.Continuation.{continued}
 use Rattle.book.specs.History.{Reserved, History, ReservationValue, holds, reservations, stamp_of, token_of}
-use Rattle.book.specs.Rows.{StampRow}
-use Rattle.book.specs.Sound.{greatest_number}
+use Rattle.book.specs.{Continuation.continued, Rows.StampRow, Sound.greatest_number}
 use Rattle.desk.specs.Command.{Setting, Command, Stamp, Begin, Deposit, Calibrate}
 use Rattle.desk.specs.MachineRuns.{Told, Journey, begins, opens, opens_older, shuts, rests, enters, breaks, goes, stops}
 use Rattle.desk.specs.MachineRuns.{continues}
-use Rattle.judgement.specs.Given.{IsGivenByRules}
-use Rattle.judgement.specs.Past.{before_of}
-use Rattle.judgement.specs.Readings.{evidence_in, unheld}
+use Rattle.judgement.specs.{Given.IsGivenByRules, Past.before_of, Readings.evidence_in, Readings.unheld}
 
 -- the reading at which a command has a stamp given, if it has one given
 abbrev pub reading_in : Command → Option ℤ

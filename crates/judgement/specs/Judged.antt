@@ -2,19 +2,13 @@
 use Rattle.std.specs.Prelude.{◌≡◌, ◌<◌, ◌≤◌, ◌==◌, ◌&&◌, Bool, true, false, not, List, Option, Some, None, is_some}
 use Rattle.std.specs.Prelude.{length}
 use Rattle.book.specs.Rows.{StampRow}
-use Rattle.tsp.specs.Rejection.{number_of}
 use Rattle.tsp.specs.Request.{RequestValue, Spells}
-use Rattle.tsp.specs.Rules.{HoldsOfOctets}
-use Rattle.tsp.specs.declared.rule.Rule.{Rule}
-use Rattle.decide.specs.Rules.{Holds}
-use Rattle.decide.specs.Verdict.{PlanValue, IsVerdict, Allowed}
-use Rattle.decide.specs.declared.facts.Facts.{Facts}
-use Rattle.judgement.specs.Given.{IsGivenByRules, account_of}
-use Rattle.judgement.specs.Past.{before_of, last_gen_time}
+use Rattle.tsp.specs.{Rejection.number_of, Rules.HoldsOfOctets, declared.rule.Rule.Rule}
+use Rattle.decide.specs.{Rules.Holds, Verdict.PlanValue, Verdict.IsVerdict, Verdict.Allowed, declared.facts.Facts.Facts}
 use Rattle.judgement.specs.Readings.{EvidenceValue, IsPossible, unheld}
-use Rattle.judgement.specs.declared.evidence.Before.{Before}
-use Rattle.judgement.specs.declared.judgement.Judgement.{Judgement}
 use Rattle.judgement.specs.declared.judgement.Judgement.TheVariants.{Given, MayHaveBeenHeld, Fails, Differs}
+use Rattle.judgement.specs.{Given.IsGivenByRules, Given.account_of, Past.before_of, Past.last_gen_time}
+use Rattle.judgement.specs.{declared.evidence.Before.Before, declared.judgement.Judgement.Judgement}
 
 -- the rules, of the stamp's octets and by these facts
 abbrev pub HoldsFor : EvidenceValue → StampRow → Facts → Rule → Type 0

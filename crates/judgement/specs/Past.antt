@@ -1,14 +1,10 @@
 -- What the rows before a stamp say of it. They come in the order of their serial numbers.
 use Rattle.std.specs.Prelude.{◌≡◌, ◌==◌, ◌&&◌, ℕ, min, List, reverse, count_by, Option, None, Some, option_map}
-use Rattle.std.specs.Prelude.{unwrap_or, String}
 use Rattle.std.specs.BTreeMap.{BTreeMap, get, get_by_text}
-use Rattle.std.specs.Ordering.{nat_cmp}
-use Rattle.std.specs.Str.{bytes_eq}
+use Rattle.std.specs.{Prelude.unwrap_or, Prelude.String, Ordering.nat_cmp, Str.bytes_eq}
 use Rattle.gentime.specs.GenTime.{day_of, last_moment}
-use Rattle.book.specs.History.{first_of}
-use Rattle.book.specs.Rows.{StampRow}
-use Rattle.judgement.specs.declared.evidence.Before.{Before}
-use Rattle.judgement.specs.declared.past.Past.{Past}
+use Rattle.book.specs.{History.first_of, Rows.StampRow}
+use Rattle.judgement.specs.{declared.evidence.Before.Before, declared.past.Past.Past}
 
 -- the genTime of the last of them, as it is judged: no genTime can state a moment after the last one
 abbrev pub last_gen_time : List StampRow → Option ℕ

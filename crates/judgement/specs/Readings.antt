@@ -1,17 +1,12 @@
 -- Which readings the clock may have had when a stamp was reserved, by what the tables keep: the calibrations, in the
 -- order in which they were added, and the stamp's genTime.
 use Rattle.std.specs.Prelude.{◌≡◌, ◌⊎◌, ◌&&◌, ℕ, ℤ, pos, ◌≤ℤ◌, int_le, int_lt, Bool, false, List, [], ◌∷◌}
-use Rattle.std.specs.Prelude.{Option, Some, None, IfSome, reverse}
-use Rattle.std.specs.List.{list_any}
+use Rattle.std.specs.{Prelude.Option, Prelude.Some, Prelude.None, Prelude.IfSome, Prelude.reverse, List.list_any}
 use Rattle.policy.specs.Record.{CounterValue, PolicyValue}
 use Rattle.book.specs.History.{CalibrationValue, History, HoldValue, calibrations, first_of, holds}
-use Rattle.book.specs.Identities.{identities}
-use Rattle.book.specs.Rows.{InstalledRow}
-use Rattle.book.specs.Sound.{greatest_number}
-use Rattle.decide.specs.Clock.{IsGood, now_at, gen_time}
-use Rattle.decide.specs.declared.facts.Calibration.{Calibration}
-use Rattle.decide.specs.declared.facts.ClockFacts.{ClockFacts}
-use Rattle.decide.specs.declared.facts.Facts.{Facts}
+use Rattle.book.specs.{Identities.identities, Rows.InstalledRow, Sound.greatest_number}
+use Rattle.decide.specs.{Clock.IsGood, Clock.now_at, Clock.gen_time, declared.facts.Calibration.Calibration}
+use Rattle.decide.specs.{declared.facts.ClockFacts.ClockFacts, declared.facts.Facts.Facts}
 use Rattle.judgement.specs.declared.evidence.Before.{Before}
 
 -- what stamps are judged by: the record of a policy file, and what the tables keep, in the order in which it was added

@@ -1,6 +1,5 @@
 -- How a judgement is told.
-use Rattle.std.specs.Prelude.{ℕ, List, ◌++◌, codes}
-use Rattle.std.specs.Fmt.{decimal}
+use Rattle.std.specs.{Prelude.ℕ, Prelude.List, Prelude.◌++◌, Prelude.codes, Fmt.decimal}
 use Rattle.tsp.specs.Rejection.{number_of}
 use Rattle.judgement.specs.declared.judgement.Judgement.{Judgement}
 use Rattle.judgement.specs.declared.judgement.Judgement.TheVariants.{Given, MayHaveBeenHeld, Fails, Differs}

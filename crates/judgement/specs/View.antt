@@ -2,8 +2,7 @@
 use Rattle.std.specs.Prelude.{map}
 use Rattle.policy.specs.View.{policy_view}
 use Rattle.book.specs.Values.{calibration_view, hold_view, identity_view}
-use Rattle.judgement.specs.Readings.{EvidenceValue}
-use Rattle.judgement.specs.declared.evidence.Evidence.{Evidence}
+use Rattle.judgement.specs.{Readings.EvidenceValue, declared.evidence.Evidence.Evidence}
 
 abbrev pub evidence_view : Evidence → EvidenceValue
 evidence_view e = record {

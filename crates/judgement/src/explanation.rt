@@ -1,28 +1,23 @@
 //! How a stamp is explained.
 ghost use Rattle.std.specs.Prelude.{◌≡◌, ◌++◌, ◌≤◌, ◌<◌, ◌+◌, ◌-◌, ◌-ℤ◌, List, Option, Some, IfOk, OnOk, MatchOption};
 ghost use Rattle.std.specs.Prelude.{codes, if◌then◌else◌, option_map};
-ghost use Rattle.std.specs.Fmt.{decimal, signed_decimal};
-ghost use Rattle.std.specs.List.{flat_map};
+ghost use Rattle.std.specs.{Fmt.decimal, Fmt.signed_decimal, List.flat_map};
 ghost use Rattle.hex.specs.Hex.{encode_lower};
 ghost use Rattle.sha2.specs.Sha256.{sha256};
-ghost use Rattle.der.specs.DataValueView.{value_view};
-ghost use Rattle.der.specs.Node.{Node, encoding};
-ghost use Rattle.der.specs.Number.{number_content};
+ghost use Rattle.der.specs.{DataValueView.value_view, Node.Node, Node.encoding, Number.number_content};
 ghost use Rattle.gentime.specs.GenTime.{last_moment};
 ghost use Rattle.policy.specs.View.{account_view, counter_view};
 ghost use Rattle.tsp.specs.View.{request_view};
 ghost use Rattle.audit.specs.Extract.{identifier_text, moment_text};
 ghost use Rattle.decide.specs.Clock.{deviation, step};
-ghost use Rattle.book.specs.Rows.{StampRow};
-ghost use Rattle.book.specs.Values.{identity_view, stamp_view};
+ghost use Rattle.book.specs.{Rows.StampRow, Values.identity_view, Values.stamp_view};
 ghost use Rattle.judgement.specs.Explanation.{IsExplanation, calibration_lines, clock_lines, clock_value, date_text};
 ghost use Rattle.judgement.specs.Explanation.{asked_lines, distance_text, imprint_lines, rule_text, stamp_lines};
 ghost use Rattle.judgement.specs.Explanation.{extension_text, extensions_of, extensions_text, found_lines, nonce_of};
 ghost use Rattle.judgement.specs.Explanation.{quota_value, row_lines, since_lines};
 ghost use Rattle.judgement.specs.Explanation.{is_failing, is_judged, named, or_none, rule_line, rule_value, rules};
 ghost use Rattle.judgement.specs.Explanation.{IsRequestOf, IsSubjectOf, signing_lines, verdict_text};
-ghost use Rattle.judgement.specs.Past.{IsPast};
-ghost use Rattle.judgement.specs.View.{evidence_view};
+ghost use Rattle.judgement.specs.{Past.IsPast, View.evidence_view};
 
 use crate::evidence::Evidence;
 use crate::judgement::Judgement;

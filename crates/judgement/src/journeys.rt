@@ -1,10 +1,8 @@
 //! What holds of the stamps that the machine gives.
 ghost use Rattle.std.specs.Prelude.{List, Option};
-ghost use Rattle.policy.specs.Record.{PolicyValue};
-ghost use Rattle.policy.specs.Sound.{IsSound};
+ghost use Rattle.policy.specs.{Record.PolicyValue, Sound.IsSound};
 ghost use Rattle.book.specs.History.{History};
-ghost use Rattle.desk.specs.Command.{Setting};
-ghost use Rattle.desk.specs.MachineRuns.{Journey, Told};
+ghost use Rattle.desk.specs.{Command.Setting, MachineRuns.Journey, MachineRuns.Told};
 ghost use Rattle.judgement.specs.Journeys.{AreGivenByRules, KeepsTo, begun_with};
 
 use book::identities_tell_who_signed;

@@ -2,8 +2,7 @@
 ghost use Rattle.std.specs.Prelude.{◌≡◌, ◌==◌, ◌&&◌, ℕ, min, [], ◌∷◌, ◌++◌, List, Some, MatchResult, if◌then◌else◌};
 ghost use Rattle.std.specs.Str.{bytes_eq};
 ghost use Rattle.gentime.specs.GenTime.{last_moment};
-ghost use Rattle.book.specs.Rows.{StampRow};
-ghost use Rattle.book.specs.Values.{stamp_view};
+ghost use Rattle.book.specs.{Rows.StampRow, Values.stamp_view};
 ghost use Rattle.judgement.specs.Past.{IsPast, before_of, count_in, count_on};
 
 use crate::evidence::Before;

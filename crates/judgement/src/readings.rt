@@ -3,12 +3,9 @@ ghost use Rattle.std.specs.Prelude.{◌≡◌, ◌↔◌, ℕ, pos, ◌+◌, ◌
 ghost use Rattle.std.specs.Prelude.{false, length, map, option_map, IfSome, IsTrue, MatchOption};
 ghost use Rattle.std.specs.List.{find};
 ghost use Rattle.policy.specs.View.{counter_view};
-ghost use Rattle.book.specs.History.{first_of};
-ghost use Rattle.book.specs.Sound.{greatest_number};
-ghost use Rattle.book.specs.Values.{calibration_view, hold_view};
-ghost use Rattle.judgement.specs.Readings.{calibration_of, is_held_by};
+ghost use Rattle.book.specs.{History.first_of, Sound.greatest_number, Values.calibration_view, Values.hold_view};
 ghost use Rattle.judgement.specs.auxiliary.Search.{IsFirstFree, IsFirstReading, IsGoodClock, IsGoodClockUnder, IsLeast};
-ghost use Rattle.judgement.specs.View.{evidence_view};
+ghost use Rattle.judgement.specs.{Readings.calibration_of, Readings.is_held_by, View.evidence_view};
 
 use crate::evidence::{Before, Evidence};
 use book::{Calibration, Hold};

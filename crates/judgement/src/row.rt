@@ -1,17 +1,14 @@
 //! Whether a row is that of the stamp which a plan makes.
 ghost use Rattle.std.specs.Prelude.{◌≡◌, ◌↔◌, ◌≤◌, IsTrue, length, map, option_map};
-ghost use Rattle.der.specs.Number.{number_content};
-ghost use Rattle.der.specs.ObjectIdentifier.{oid_content};
+ghost use Rattle.der.specs.{Number.number_content, ObjectIdentifier.oid_content};
 ghost use Rattle.gentime.specs.GenTime.{day_of};
 ghost use Rattle.policy.specs.View.{counter_view};
-ghost use Rattle.tsp.specs.Request.{Spells};
-ghost use Rattle.tsp.specs.View.{extension_view, request_view, tst_view};
+ghost use Rattle.tsp.specs.{Request.Spells, View.extension_view, View.request_view, View.tst_view};
 ghost use Rattle.book.specs.Values.{identity_view, stamp_view};
 ghost use Rattle.audit.specs.Consistent.{IsConsistent};
 ghost use Rattle.decide.specs.View.{plan_view};
-ghost use Rattle.judgement.specs.Given.{IsStampBy};
 ghost use Rattle.judgement.specs.auxiliary.Search.{HasColumns, IsAnswerBy};
-ghost use Rattle.judgement.specs.View.{evidence_view};
+ghost use Rattle.judgement.specs.{Given.IsStampBy, View.evidence_view};
 
 use crate::evidence::Evidence;
 use audit::check_row;

@@ -1,19 +1,12 @@
 //! What is found of a stamp.
 ghost use Rattle.std.specs.Prelude.{◌≡◌, ◌↔◌, ◌≤◌, List, length};
 ghost use Rattle.policy.specs.View.{policy_view};
-ghost use Rattle.tsp.specs.Request.{Spells};
-ghost use Rattle.tsp.specs.View.{request_view};
-ghost use Rattle.book.specs.Rows.{StampRow};
-ghost use Rattle.book.specs.Values.{stamp_view};
-ghost use Rattle.decide.specs.Verdict.{IsVerdict, Allowed};
-ghost use Rattle.decide.specs.View.{plan_view};
-ghost use Rattle.decide.specs.declared.facts.Facts.{Facts};
-ghost use Rattle.judgement.specs.Given.{IsGivenByRules, account_of};
-ghost use Rattle.judgement.specs.Judged.{IsJudgedAs, IsJudgedBehind};
-ghost use Rattle.judgement.specs.Past.{IsPast};
+ghost use Rattle.tsp.specs.{Request.Spells, View.request_view};
+ghost use Rattle.book.specs.{Rows.StampRow, Values.stamp_view};
+ghost use Rattle.decide.specs.{Verdict.IsVerdict, Verdict.Allowed, View.plan_view, declared.facts.Facts.Facts};
 ghost use Rattle.judgement.specs.Readings.{ComesFurthest, EvidenceValue, IsPossible, unheld};
-ghost use Rattle.judgement.specs.View.{evidence_view};
-ghost use Rattle.judgement.specs.declared.judgement.Judgement.{Judgement};
+ghost use Rattle.judgement.specs.{Given.IsGivenByRules, Given.account_of, Judged.IsJudgedAs, Judged.IsJudgedBehind};
+ghost use Rattle.judgement.specs.{Past.IsPast, View.evidence_view, declared.judgement.Judgement.Judgement};
 
 use crate::evidence::{Before, Evidence};
 use crate::judgement::Judgement;

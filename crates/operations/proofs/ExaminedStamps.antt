@@ -2,33 +2,20 @@
 use Rattle.std.proofs.Common.{◌≡◌, ◌≢◌, ◌∙◌, ℕ, ◌+◌, Bool, true, false, List, [], ◌∷◌, ◌++◌, length, take}
 use Rattle.std.proofs.Common.{Option, Some, None, Result, Ok, Err, IfOk, IsTrue, ◌↔◌, refl, sym, ap, inl, inr, subst}
 use Rattle.std.proofs.Common.{arith, append_assoc, append-nil}
-use Rattle.std.proofs.KnownBytes.{Appends-nil, Appends-trans}
-use Rattle.std.proofs.Math.Seq.{take-append-add, take-length}
-use Rattle.std.proofs.lemmas.Grind.{flat_map-append}
-use Rattle.std.proofs.lemmas.List.{length-append}
+use Rattle.std.proofs.{KnownBytes.Appends-nil, KnownBytes.Appends-trans, Math.Seq.take-append-add, Math.Seq.take-length}
+use Rattle.std.proofs.{lemmas.Grind.flat_map-append, lemmas.List.length-append}
 use Rattle.std.specs.Io.KnownBytes.{Appends}
 use Rattle.audit.proofs.Lines.{looks_after, looks_not}
-use Rattle.audit.specs.Consistent.{IsConsistent}
-use Rattle.audit.specs.Intact.{IsIntact}
-use Rattle.book.specs.declared.standing.Standing.{Ghosts}
-use Rattle.book.specs.Identities.{identities}
-use Rattle.book.specs.Rights.{deposit_with_stamp}
-use Rattle.book.specs.Rows.{StampRow}
-use Rattle.book.specs.History.{History, stamps_between}
-use Rattle.book.specs.Ranges.{IsNextStamp}
-use Rattle.book.specs.Stands.{OnlyLooks, Stands}
-use Rattle.book.specs.Values.{stamp_view}
-use Rattle.book.specs.declared.rows.Stamp.{Stamp}
-use Rattle.judgement.specs.Judged.{IsJudgedBehind}
-use Rattle.judgement.specs.Readings.{evidence_in}
-use Rattle.judgement.specs.declared.judgement.Judgement.{Judgement}
+use Rattle.audit.specs.{Consistent.IsConsistent, Intact.IsIntact}
+use Rattle.book.specs.{declared.standing.Standing.Ghosts, Identities.identities, Rights.deposit_with_stamp}
+use Rattle.book.specs.{Rows.StampRow, History.History, History.stamps_between, Ranges.IsNextStamp, Stands.OnlyLooks}
+use Rattle.book.specs.{Stands.Stands, Values.stamp_view, declared.rows.Stamp.Stamp}
+use Rattle.judgement.specs.{Judged.IsJudgedBehind, Readings.evidence_in, declared.judgement.Judgement.Judgement}
 use Rattle.policy.specs.View.{policy_view}
-use Rattle.operations.specs.Kept.{IsKept}
 use Rattle.operations.specs.Audits.{AreFailing, ExaminesBehind, Failure, IsCutOff, IsFound, Knows, TellsSome}
 use Rattle.operations.specs.Audits.{failing_line, failing_lines, failures_of}
 use Rattle.operations.specs.declared.audits.Findings.{Findings}
-use Rattle.operations.specs.declared.audits.Inquiry.{Inquiry}
-use Rattle.operations.specs.declared.kept.Kept.{Kept}
+use Rattle.operations.specs.{Kept.IsKept, declared.audits.Inquiry.Inquiry, declared.kept.Kept.Kept}
 
 -- what comes next of a range is the stamp that is handed out
 pub next_is : (from to : ℕ) (b : History) (found : Option Stamp) (stamp : Stamp) → found ≡ Some stamp

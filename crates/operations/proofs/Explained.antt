@@ -4,10 +4,7 @@ use Rattle.std.proofs.Common.{reverse, sym, ap, subst, arith, inl, inr}
 use Rattle.std.proofs.lemmas.Bool.Decides.{leb_tells}
 use Rattle.std.specs.List.{filter}
 use Rattle.book.specs.History.{History, stamps, stamps_between}
-use Rattle.book.specs.Ranges.{IsNextStamp, IsWithin}
-use Rattle.book.specs.Rows.{StampRow}
-use Rattle.book.specs.Values.{stamp_view}
-use Rattle.book.specs.declared.rows.Stamp.{Stamp}
+use Rattle.book.specs.{Ranges.IsNextStamp, Ranges.IsWithin, Rows.StampRow, Values.stamp_view, declared.rows.Stamp.Stamp}
 use Rattle.operations.proofs.ExaminedStamps.{next_is}
 
 none_above : (n m : ℕ) → (nat_le (n + 1) m && nat_le m n) ≡ false

@@ -4,8 +4,7 @@ use Rattle.sqlite_store.specs.declared.store.FileStore.{FileStore}
 use Rattle.sqlite.specs.Files.{over_files}
 use Rattle.tables.specs.Base.{BaseValue}
 use Rattle.store.specs.Stands.{over_tables, Stands as StoreStands}
-use Rattle.book.specs.History.{History}
-use Rattle.book.specs.Stands.{Stands}
+use Rattle.book.specs.{History.History, Stands.Stands}
 
 -- one that stands for a history is a book that does
 pub stands_as_book : {D : Type 0} (disk : Disk D) (b : History) (store : BaseValue (FileStore D disk))

@@ -2,49 +2,38 @@
 use Rattle.std.proofs.Common.{◌≡◌, ℕ, ◌<◌, ◌≤◌, ◌==◌, max, Bool, true, false, not, List, []}
 use Rattle.std.proofs.Common.{◌∷◌, ◌++◌, map, reverse, Option, None, Some, option_map, refl, sym, ap, ap₂}
 use Rattle.std.proofs.Common.{◌∙◌, subst, inl, inr, arith, Result, Ok, Err, IfOk, IfErr, if◌then◌else◌, find, ◌+◌}
-use Rattle.std.specs.Prelude.{IsOk, OnErr, OnOk}
-use Rattle.std.specs.List.{filter, list_any}
 use Rattle.std.proofs.Math.Nat.{le-max_left, le-max_right, max-eq_left}
 use Rattle.std.proofs.lemmas.Bool.{le-ltb, lt-ltb, eq-eqb}
-use Rattle.std.proofs.lemmas.List.{reverse-append, reverse-reverse}
-use Rattle.std.proofs.lemmas.List.Elements.{filter-append}
 use Rattle.std.proofs.lemmas.List.Sorted.{IsPermutation-reverse, list_any-IsPermutation}
+use Rattle.std.proofs.{lemmas.List.reverse-append, lemmas.List.reverse-reverse, lemmas.List.Elements.filter-append}
+use Rattle.std.specs.{Prelude.IsOk, Prelude.OnErr, Prelude.OnOk, List.filter, List.list_any}
 use Rattle.gentime.specs.GenTime.{last_moment}
 use Rattle.book.specs.Continuation.{Floor as Void, all_moments, closed, continued, entry_if, first_entries, holds_all}
 use Rattle.book.specs.Continuation.{IsAbove, IsAboveIfAny, identity_since, is_closed, last_reservation, last_stamp}
-use Rattle.book.specs.Continuation.{stamp_with_identity}
-use Rattle.book.specs.Entries.{Appends, FitInTurn, with_all}
-use Rattle.book.specs.Fault.{IsOfStorage}
 use Rattle.book.specs.History.{Entry, Reserved, Installed, Calibrated, Held, History, HoldValue, CalibrationValue}
 use Rattle.book.specs.History.{ReservationValue, first_of, greatest_of, greatest_serial, holds, last_gen_time}
 use Rattle.book.specs.History.{latest_calibration, reservation_at, reservations, stamp_of, token_of}
 use Rattle.book.specs.Identities.{identities, identity_at_reservation, identity_before, installed_as, installed_row}
-use Rattle.book.specs.Identities.{installed_rows}
+use Rattle.book.specs.{Continuation.stamp_with_identity, Entries.Appends, Entries.FitInTurn, Entries.with_all}
+use Rattle.book.specs.{Fault.IsOfStorage, Identities.installed_rows, Ranges.IsNextStamp, Rows.InstalledRow}
+use Rattle.book.specs.{Rows.StampRow, Sound.IsSound, Sound.greatest_number, Stands.OnlyLooks, Stands.Stands}
+use Rattle.book.specs.{Values.hold_view, Values.identity_view, Values.stamp_view, declared.fault.StoreFault.StoreFault}
+use Rattle.book.specs.{declared.rows.Stamp.Stamp, declared.standing.Standing.Ghosts}
 use Rattle.book.proofs.Stamps.{stamp_found}
-use Rattle.book.specs.Ranges.{IsNextStamp}
-use Rattle.book.specs.Rows.{InstalledRow, StampRow}
-use Rattle.book.specs.Sound.{IsSound, greatest_number}
-use Rattle.book.specs.Stands.{OnlyLooks, Stands}
-use Rattle.book.specs.Values.{hold_view, identity_view, stamp_view}
-use Rattle.book.specs.declared.fault.StoreFault.{StoreFault}
-use Rattle.book.specs.declared.rows.Stamp.{Stamp}
-use Rattle.book.specs.declared.standing.Standing.{Ghosts}
 use Rattle.desk.specs.Content.{IsSoundInFull}
 use Rattle.desk.specs.Continuation.{IsRestated, IsStated, IsStatedIfAny}
 use Rattle.operations.specs.Continuation.{Carries, Closes, IsCarried, Reaches, entries_of}
 use Rattle.operations.specs.Continuation.{entries_of_holds, entries_of_identity, entries_of_last, entries_of_stamp}
 use Rattle.operations.specs.Continuation.{identity_since_among, last_stamp_of, latest_of, void_in}
-use Rattle.operations.specs.DatabaseFaults.{IsOpeningFault}
 use Rattle.operations.specs.OverFiles.{IsContinuedOver, IsDoneOver, IsMadeOver, IsRefusedBy}
-use Rattle.operations.specs.VoidStamp.{IsVoidIfAny, reserved_as}
+use Rattle.operations.specs.declared.fault.ContinuationFault.{ContinuationFault}
+use Rattle.operations.specs.declared.fault.ContinuationFault.TheVariants.{Unopened, Unfinished}
+use Rattle.operations.specs.{DatabaseFaults.IsOpeningFault, VoidStamp.IsVoidIfAny, VoidStamp.reserved_as}
+use Rattle.operations.specs.{declared.carried.Carried.Carried, declared.void_stamp.Floor.Floor}
 use Rattle.sqlite.specs.Files.{over_files}
 use Rattle.sqlite_disk.specs.declared.Disk.{Ghosts as Disk}
 use Rattle.sqlite_wal.specs.Recovery.{Image}
 use Rattle.store.specs.Stands.{over_tables}
-use Rattle.operations.specs.declared.carried.Carried.{Carried}
-use Rattle.operations.specs.declared.fault.ContinuationFault.{ContinuationFault}
-use Rattle.operations.specs.declared.fault.ContinuationFault.TheVariants.{Unopened, Unfinished}
-use Rattle.operations.specs.declared.void_stamp.Floor.{Floor}
 
 -- ---- lists
 

@@ -2,14 +2,11 @@
 -- is refused.
 use Rattle.std.proofs.Common.{◌≡◌, ◌⊎◌, Result, Ok, Err, IfOk, IfErr, inl, inr, subst, sym}
 use Rattle.std.specs.Prelude.{OnErr}
-use Rattle.book.specs.declared.fault.StoreFault.{StoreFault}
 use Rattle.book.specs.declared.fault.StoreFault.TheVariants.{Backwards}
-use Rattle.book.specs.declared.standing.Standing.{Ghosts}
-use Rattle.desk.specs.CallContract.{DeskValue}
-use Rattle.desk.specs.Command.{Setting}
-use Rattle.operations.specs.DatabaseFaults.{IsOpeningFault}
+use Rattle.book.specs.{declared.fault.StoreFault.StoreFault, declared.standing.Standing.Ghosts}
+use Rattle.desk.specs.{CallContract.DeskValue, Command.Setting}
 use Rattle.operations.specs.Visits.{IsUnopened, IsUnvisited, IsVisited}
-use Rattle.operations.specs.declared.fault.OperationFault.{OperationFault}
+use Rattle.operations.specs.{DatabaseFaults.IsOpeningFault, declared.fault.OperationFault.OperationFault}
 
 -- one was opened, this was done to it, and what that left was closed
 abbrev IsDoneIn : {B : Type 0} → (Opens Closes : B → Type 0) → (B → B → Type 0) → Type 0

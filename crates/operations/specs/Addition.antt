@@ -1,14 +1,9 @@
 -- What an operator adds to the history.
 use Rattle.std.specs.Prelude.{◌≡◌, [], ◌∷◌, ◌+◌, ℕ, length, IfOk, IsErr, Result, Err}
-use Rattle.book.specs.Entries.{Appends}
-use Rattle.book.specs.Fault.{IsOfStorageOr}
 use Rattle.book.specs.History.{Entry, History, Calibrated, Held, calibrations, holds, latest_calibration}
-use Rattle.book.specs.Sound.{IsBackwards}
-use Rattle.book.specs.Stands.{LeavesAsBefore, Stands}
-use Rattle.book.specs.Values.{calibration_view, hold_view}
-use Rattle.book.specs.declared.fault.StoreFault.{StoreFault}
-use Rattle.book.specs.declared.standing.Standing.{Ghosts}
-use Rattle.book.specs.declared.fault.StoreFault.TheVariants.{Backwards}
+use Rattle.book.specs.{Entries.Appends, Fault.IsOfStorageOr, Sound.IsBackwards, Stands.LeavesAsBefore, Stands.Stands}
+use Rattle.book.specs.{Values.calibration_view, Values.hold_view, declared.fault.StoreFault.StoreFault}
+use Rattle.book.specs.{declared.standing.Standing.Ghosts, declared.fault.StoreFault.TheVariants.Backwards}
 use Rattle.operations.specs.declared.addition.Addition.{Addition}
 use Rattle.operations.specs.declared.addition.Addition.TheVariants.{Calibration, Hold}
 

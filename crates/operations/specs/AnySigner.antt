@@ -1,8 +1,7 @@
 -- A signer that was reached, whichever it is: it signs, counts and names its algorithm as that.
 use Rattle.std.specs.Prelude.{ℕ, List, Result}
 use Rattle.cms.specs.KeyedHash.{SignsByHash, SendsNothing, keyed_hash_algorithm}
-use Rattle.cms.specs.Signer.{AwaitsInTurn}
-use Rattle.cms.specs.declared.signer.SignerFault.{SignerFault}
+use Rattle.cms.specs.{Signer.AwaitsInTurn, declared.signer.SignerFault.SignerFault}
 use Rattle.operations.specs.declared.signers.AnySigner.{AnySigner}
 use Rattle.operations.specs.declared.signers.AnySigner.TheVariants.{Keyed, Session, Reconnecting}
 

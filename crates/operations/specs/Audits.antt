@@ -1,38 +1,22 @@
 -- What an audit writes.
 use Rattle.std.specs.Prelude.{◌≡◌, ◌≢◌, ◌⊎◌, ◌↔◌, ℕ, ◌<◌, Bool, true, false, List, [], ◌∷◌, ◌++◌, IfErr, IfOk, OnOk}
 use Rattle.std.specs.Prelude.{IsTrue, MatchResult, Option, None, Some, Result, codes, if◌then◌else◌, length, map, take}
-use Rattle.std.specs.Fmt.{decimal}
-use Rattle.std.specs.Io.KnownBytes.{Appends}
-use Rattle.std.specs.List.{flat_map}
-use Rattle.audit.specs.Auditor.{IsAllowed, IsMet}
+use Rattle.std.specs.{Fmt.decimal, Io.KnownBytes.Appends, List.flat_map}
+use Rattle.audit.specs.{Auditor.IsAllowed, Auditor.IsMet, Consistent.IsConsistent, Fault.count_after, Intact.IsIntact}
+use Rattle.audit.specs.{Extract.extract_text, Extract.lines_text, declared.fault.ExtractFault.ExtractFault}
 use Rattle.audit.specs.Auditor as auditor
-use Rattle.audit.specs.Consistent.{IsConsistent}
-use Rattle.audit.specs.Extract.{extract_text, lines_text}
-use Rattle.audit.specs.Fault.{count_after}
-use Rattle.audit.specs.Intact.{IsIntact}
-use Rattle.audit.specs.declared.fault.ExtractFault.{ExtractFault}
 use Rattle.audit.specs.declared.fault.ExtractFault.TheVariants as extract
 use Rattle.policy.specs.View.{account_view, policy_view}
 use Rattle.book.specs.Fault as book
 use Rattle.book.specs.declared.fault.StoreFault.TheVariants as store
-use Rattle.book.specs.declared.standing.Standing.{Ghosts}
 use Rattle.book.specs.History.{History, stamps_between}
-use Rattle.book.specs.Identities.{identities}
-use Rattle.book.specs.Rights.{deposit_with_stamp}
-use Rattle.book.specs.Rows.{StampRow}
-use Rattle.book.specs.Stands.{OnlyLooks, Stands}
-use Rattle.book.specs.Values.{identity_view}
-use Rattle.judgement.specs.Judged.{IsJudgedBehind}
-use Rattle.judgement.specs.Readings.{evidence_in}
-use Rattle.judgement.specs.Texts.{judgement_text}
-use Rattle.judgement.specs.declared.judgement.Judgement.{Judgement}
-use Rattle.judgement.specs.declared.judgement.Judgement.TheVariants.{Given}
-use Rattle.operations.specs.Kept.{IsKept, rows_before}
-use Rattle.operations.specs.declared.audits.AuditFault.{AuditFault}
+use Rattle.book.specs.{declared.standing.Standing.Ghosts, Identities.identities, Rights.deposit_with_stamp}
+use Rattle.book.specs.{Rows.StampRow, Stands.OnlyLooks, Stands.Stands, Values.identity_view}
+use Rattle.judgement.specs.{Judged.IsJudgedBehind, Readings.evidence_in, Texts.judgement_text}
+use Rattle.judgement.specs.{declared.judgement.Judgement.Judgement, declared.judgement.Judgement.TheVariants.Given}
+use Rattle.operations.specs.{Kept.IsKept, Kept.rows_before, declared.audits.Inquiry.Inquiry, declared.kept.Kept.Kept}
+use Rattle.operations.specs.{declared.audits.AuditFault.AuditFault, declared.audits.Findings.Findings}
 use Rattle.operations.specs.declared.audits.AuditFault.TheVariants as fault
-use Rattle.operations.specs.declared.audits.Findings.{Findings}
-use Rattle.operations.specs.declared.audits.Inquiry.{Inquiry}
-use Rattle.operations.specs.declared.kept.Kept.{Kept}
 
 -- stamps are looked at more closely than their extract wants
 abbrev pub IsExamining : Inquiry → Type 0

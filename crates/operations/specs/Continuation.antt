@@ -4,31 +4,21 @@ use Rattle.std.specs.Prelude.{◌≡◌, ◌⊎◌, ℕ, ◌<◌, ◌≤◌, not
 use Rattle.std.specs.Prelude.{Option, None, Some, option_map, if◌then◌else◌, Result, Ok, Err, MatchResult, OnOk, OnErr}
 use Rattle.std.specs.List.{Contains}
 use Rattle.book.specs.Continuation.{Floor as Void, IsAbove, IsAboveIfAny, closed, continued, entry_if, holds_all}
-use Rattle.book.specs.Continuation.{last_reservation}
 use Rattle.book.specs.History.{Entry, Reserved, Sealed, Calibrated, Held, Installed, History, HoldValue}
 use Rattle.book.specs.History.{ReservationValue, greatest_serial, holds, last_gen_time}
 use Rattle.book.specs.History.{latest_calibration, reservations, stamp_of, token_of, first_of}
 use Rattle.book.specs.Identities.{identities, identity_before, installed_as}
-use Rattle.book.specs.Rows.{InstalledRow, StampRow}
-use Rattle.book.specs.Sound.{Along, IsSound}
-use Rattle.book.specs.Stands.{OnlyLooks, Stands}
 use Rattle.book.specs.Values.{calibration_option, hold_view, identity_view, stamp_view}
 use Rattle.book.specs.declared.fault.StoreFault.{StoreFault}
-use Rattle.book.specs.declared.standing.Standing.{Ghosts}
-use Rattle.desk.specs.Closed.{GivesNothingOut, StaysClosed}
-use Rattle.desk.specs.Command.{Command, Setting}
-use Rattle.desk.specs.Content.{IsSoundInFull}
-use Rattle.desk.specs.Continuation.{IsStatedIfAny}
-use Rattle.desk.specs.Effects.{Effect}
-use Rattle.desk.specs.MachineRuns.{IsRising, Journey}
-use Rattle.desk.specs.MachineStep.{HasEffect}
-use Rattle.desk.specs.Outcome.{Outcome}
-use Rattle.operations.specs.DatabaseFaults.{IsOpeningFault}
+use Rattle.book.specs.{Continuation.last_reservation, Rows.InstalledRow, Rows.StampRow, Sound.Along, Sound.IsSound}
+use Rattle.book.specs.{Stands.OnlyLooks, Stands.Stands, declared.standing.Standing.Ghosts}
+use Rattle.desk.specs.{Closed.GivesNothingOut, Closed.StaysClosed, Command.Command, Command.Setting}
+use Rattle.desk.specs.{Content.IsSoundInFull, Continuation.IsStatedIfAny, Effects.Effect, MachineRuns.IsRising}
+use Rattle.desk.specs.{MachineRuns.Journey, MachineStep.HasEffect, Outcome.Outcome}
 use Rattle.operations.specs.VoidStamp.{IsVoidIfAny, reserved_as, reserved_in_place, void_view}
-use Rattle.operations.specs.declared.carried.Carried.{Carried}
-use Rattle.operations.specs.declared.fault.ContinuationFault.{ContinuationFault}
 use Rattle.operations.specs.declared.fault.ContinuationFault.TheVariants.{Unopened, Unclosed, NotAfter, Unfinished}
-use Rattle.operations.specs.declared.void_stamp.Floor.{Floor}
+use Rattle.operations.specs.{DatabaseFaults.IsOpeningFault, declared.carried.Carried.Carried}
+use Rattle.operations.specs.{declared.fault.ContinuationFault.ContinuationFault, declared.void_stamp.Floor.Floor}
 
 -- ---- what is carried on
 

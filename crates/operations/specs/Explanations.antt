@@ -3,12 +3,9 @@ use Rattle.std.specs.Prelude.{◌≡◌, ◌-◌, ℕ, List, [], ◌∷◌, Opti
 use Rattle.sqlite_disk.specs.declared.Disk.{Ghosts as Disk}
 use Rattle.sqlite_wal.specs.Recovery.{Image}
 use Rattle.policy.specs.Record.{PolicyValue}
-use Rattle.book.specs.declared.standing.Standing.{Ghosts}
 use Rattle.book.specs.History.{History, stamps_between}
-use Rattle.book.specs.Rows.{StampRow}
-use Rattle.book.specs.Stands.{OnlyLooks, Stands}
-use Rattle.judgement.specs.Explanation.{IsExplanation}
-use Rattle.judgement.specs.Readings.{evidence_in}
+use Rattle.book.specs.{declared.standing.Standing.Ghosts, Rows.StampRow, Stands.OnlyLooks, Stands.Stands}
+use Rattle.judgement.specs.{Explanation.IsExplanation, Readings.evidence_in}
 use Rattle.operations.specs.OverFiles.{IsDoneOver}
 
 -- The stamp of a serial number is explained by what the history keeps, behind the stamps with lower ones; or no stamp

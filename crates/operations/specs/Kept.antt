@@ -1,9 +1,8 @@
 -- What a stamp of a history is judged by, as it is kept.
 use Rattle.std.specs.Prelude.{◌≡◌, ◌-◌, ℕ, List, map, reverse}
 use Rattle.book.specs.History.{History, calibrations, holds, stamps_between}
-use Rattle.book.specs.Identities.{identities}
-use Rattle.book.specs.Rows.{StampRow}
 use Rattle.book.specs.Values.{calibration_view, hold_view, identity_view}
+use Rattle.book.specs.{Identities.identities, Rows.StampRow}
 use Rattle.judgement.specs.Past.{IsPast}
 use Rattle.operations.specs.declared.kept.Kept.{Kept}
 

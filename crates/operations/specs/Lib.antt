@@ -8,7 +8,7 @@ pub mod Kept
 pub mod Machine
 pub mod OverFiles
 pub mod AnySigner
-pub mod Signing
+pub mod SignerSource
 pub mod Visits
 pub mod VoidStamp
 pub mod auxiliary

@@ -1,6 +1,5 @@
 -- What is known of the machine that the program runs on.
-use Rattle.sqlite_disk.specs.declared.Disk.{Ghosts}
-use Rattle.sqlite_disk.specs.declared.start.Start.{Ghosts as First}
+use Rattle.sqlite_disk.specs.{declared.Disk.Ghosts, declared.start.Start.Ghosts as First}
 pub use Rattle.sqlite_wal.specs.Files.{image_at}
 use Rattle.sqlite_wal.specs.Recovery.{Image}
 use Rattle.cms.specs.declared.signer.Signer.{Ghosts as Signs}

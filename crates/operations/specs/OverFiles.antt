@@ -1,32 +1,22 @@
 -- What is done over the files at a path of this machine, whatever they held: what is known there of what is opened,
 -- closed, reached and left.
 use Rattle.std.specs.Prelude.{◌≡◌, ℕ, Bool, List, [], IfOk, Option, Result}
-use Rattle.sqlite_disk.specs.declared.Disk.{Ghosts}
-use Rattle.sqlite_disk.specs.declared.Files.{Files}
+use Rattle.sqlite_disk.specs.{declared.Disk.Ghosts, declared.Files.Files}
 use Rattle.sqlite_store.specs.declared.store.FileStore.{FileStore}
-use Rattle.sqlite_wal.specs.Reads.{AreClean}
-use Rattle.sqlite_wal.specs.Recovery.{Image}
-use Rattle.sqlite.specs.Files.{file_state, over_files}
-use Rattle.sqlite.specs.State.{HasCleanDisk}
+use Rattle.sqlite_wal.specs.{Reads.AreClean, Recovery.Image}
+use Rattle.sqlite.specs.{Files.file_state, Files.over_files, State.HasCleanDisk}
 use Rattle.cms.specs.declared.signer.Signer.{Ghosts as Signs}
-use Rattle.book.specs.declared.fault.StoreFault.{StoreFault}
-use Rattle.book.specs.declared.standing.Standing.{Ghosts as Book}
-use Rattle.book.specs.Entries.{FitInTurn, with_all}
-use Rattle.book.specs.History.{Entry, History}
-use Rattle.book.specs.Stands.{Stands}
+use Rattle.book.specs.{declared.fault.StoreFault.StoreFault, declared.standing.Standing.Ghosts as Book}
+use Rattle.book.specs.{Entries.FitInTurn, Entries.with_all, History.Entry, History.History, Stands.Stands}
 use Rattle.tables.specs.Base.{BaseValue, IsHonest, IsOpen}
 use Rattle.store.specs.Files.{HasClosed, HoldsTables, LeavesFiles, OpensFound}
 pub use Rattle.store.specs.Files.{IsFreeAt, MigratesFound}
 use Rattle.store.specs.Stands.{Stands as StandsOver, over_tables}
-use Rattle.desk.specs.Command.{Setting}
-use Rattle.desk.specs.MachineRuns.{Journey, Told}
-use Rattle.operations.specs.Audits.{IsAuditOf}
+use Rattle.desk.specs.{Command.Setting, MachineRuns.Journey, MachineRuns.Told}
 use Rattle.operations.specs.Continuation.{Continues, GoesOver, IsRefused}
-use Rattle.operations.specs.declared.audits.AuditFault.{AuditFault}
-use Rattle.operations.specs.declared.audits.Inquiry.{Inquiry}
-use Rattle.operations.specs.declared.fault.ContinuationFault.{ContinuationFault}
 use Rattle.operations.specs.declared.fault.ContinuationFault.TheVariants.{Unopened}
-use Rattle.operations.specs.declared.void_stamp.Floor.{Floor}
+use Rattle.operations.specs.{Audits.IsAuditOf, declared.audits.AuditFault.AuditFault, declared.audits.Inquiry.Inquiry}
+use Rattle.operations.specs.{declared.fault.ContinuationFault.ContinuationFault, declared.void_stamp.Floor.Floor}
 
 -- nothing more is known of it
 abbrev pub IsAny : {X : Type 0} → X → Type 0

@@ -1,11 +1,8 @@
 -- What is done at a desk with a signer, over the history of a book.
 use Rattle.std.specs.Prelude.{◌≡◌, ◌⊎◌, Ok, Err}
-use Rattle.book.specs.declared.standing.Standing.{Ghosts}
-use Rattle.book.specs.History.{History}
-use Rattle.book.specs.Stands.{Stands}
-use Rattle.desk.specs.declared.fault.Fault.{Fault}
-use Rattle.desk.specs.Command.{Setting}
+use Rattle.book.specs.{declared.standing.Standing.Ghosts, History.History, Stands.Stands}
 use Rattle.desk.specs.CallContract.{DeskValue, HasOpened, StandsInForce}
+use Rattle.desk.specs.{declared.fault.Fault.Fault, Command.Setting}
 use Rattle.operations.specs.declared.fault.OperationFault.{OperationFault}
 use Rattle.operations.specs.declared.fault.OperationFault.TheVariants as operation
 

@@ -1,18 +1,14 @@
 -- A void stamp in place of a history's last one.
 use Rattle.std.specs.Prelude.{◌≡◌, ◌⊎◌, ℕ, ◌<◌, ◌≤◌, List, length, Option, Some, None}
 use Rattle.gentime.specs.GenTime.{last_moment}
-use Rattle.tsp.specs.Request.{RequestValue, Spells}
-use Rattle.tsp.specs.Tst.{SpellsTst, TstValue}
+use Rattle.tsp.specs.{Request.RequestValue, Request.Spells, Tst.SpellsTst, Tst.TstValue}
 use Rattle.book.specs.Continuation.{Floor as Void, reserved_as as reserved_above}
-use Rattle.book.specs.History.{ReservationValue}
-use Rattle.book.specs.Rows.{StampRow}
-use Rattle.book.specs.Sound.{greatest_number}
 use Rattle.book.specs.declared.fault.StoreFault.TheVariants.{Memory, NotOurs}
+use Rattle.book.specs.{History.ReservationValue, Rows.StampRow, Sound.greatest_number}
 use Rattle.desk.specs.Continuation.{IsRestated}
 use Rattle.operations.specs.declared.fault.ContinuationFault.{ContinuationFault}
 use Rattle.operations.specs.declared.fault.ContinuationFault.TheVariants.{Unclosed, NotAfter}
-use Rattle.operations.specs.declared.void_stamp.Floor.{Floor}
-use Rattle.operations.specs.declared.void_stamp.VoidStamp.{VoidStamp}
+use Rattle.operations.specs.{declared.void_stamp.Floor.Floor, declared.void_stamp.VoidStamp.VoidStamp}
 
 -- what was reserved for a stamp
 abbrev pub reserved_as : StampRow → ReservationValue

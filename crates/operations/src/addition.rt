@@ -1,8 +1,6 @@
 //! What an operator adds to the history.
 ghost use Rattle.std.specs.Prelude.{◌≡◌, ◌⊎◌, [], ◌∷◌, Err, IfErr, IfOk, IsErr};
-ghost use Rattle.book.specs.Entries.{Appends};
-ghost use Rattle.book.specs.History.{History};
-ghost use Rattle.book.specs.Stands.{LeavesAsBefore, Stands};
+ghost use Rattle.book.specs.{Entries.Appends, History.History, Stands.LeavesAsBefore, Stands.Stands};
 ghost use Rattle.operations.specs.Addition.{IsAdded, IsAdditionFault, IsBefore, entry_of, number_of};
 ghost use Rattle.operations.specs.OverFiles.{IsDoneOver};
 

@@ -1,24 +1,17 @@
 //! How the stamps that the database at a path keeps are extracted, checked, and judged again.
 ghost use Rattle.std.specs.Prelude.{◌≡◌, ◌≢◌, ◌⊎◌, ◌↔◌, true, false, IfOk, IfErr, IsTrue, OnOk, OnErr};
 ghost use Rattle.std.specs.Prelude.{◌++◌, ◌∷◌, ℕ, [], List, None, if◌then◌else◌, option_map, string_bytes};
-ghost use Rattle.std.specs.Option.{option_to_list};
-ghost use Rattle.std.specs.Io.KnownBytes.{Appends};
-ghost use Rattle.audit.specs.Extract.{extract_text};
-ghost use Rattle.audit.specs.Intact.{IsIntact};
-ghost use Rattle.book.specs.History.{History};
-ghost use Rattle.book.specs.Rights.{deposit_with_stamp};
-ghost use Rattle.book.specs.Rows.{StampRow};
+ghost use Rattle.std.specs.{Option.option_to_list, Io.KnownBytes.Appends};
+ghost use Rattle.audit.specs.{Extract.extract_text, Intact.IsIntact};
 ghost use Rattle.book.specs.Stands.{OnlyLooks, Stands};
-ghost use Rattle.book.specs.Values.{stamp_view};
-ghost use Rattle.judgement.specs.Judged.{IsJudgedBehind};
-ghost use Rattle.judgement.specs.Readings.{evidence_in};
+ghost use Rattle.book.specs.{History.History, Rights.deposit_with_stamp, Rows.StampRow, Values.stamp_view};
+ghost use Rattle.judgement.specs.{Judged.IsJudgedBehind, Readings.evidence_in};
 ghost use Rattle.operations.specs.Audits.{Allows, BeginsExtract, ComesWhere, CountsAudit, CountsFaults, Examines};
 ghost use Rattle.operations.specs.Audits.{ExaminesBehind, IsCutOff, IsExamining, IsExtractFault, IsFound, Knows};
-ghost use Rattle.operations.specs.declared.audits.AuditFault.TheVariants.{Store};
 ghost use Rattle.operations.specs.Audits.{IsAudited, IsAuditOf, Leaves, TellsFailing, TellsSome, WritesExtract};
 ghost use Rattle.operations.specs.Audits.{Deposit, Judged, Row, failing_lines, failures_of, judged_of};
-ghost use Rattle.operations.specs.Kept.{rows_before};
 ghost use Rattle.operations.specs.OverFiles.{IsAuditedOver, IsUnopenedAs};
+ghost use Rattle.operations.specs.{declared.audits.AuditFault.TheVariants.Store, Kept.rows_before};
 ghost use Rattle.policy.specs.View.{policy_view};
 
 use crate::database::{Database, DatabaseFiles};

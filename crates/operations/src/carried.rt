@@ -1,9 +1,7 @@
 //! What a history is carried on with, and with which entries a new book begins.
 ghost use Rattle.std.specs.Prelude.{◌≡◌, [], ◌∷◌, ◌++◌, map, option_map, OnOk, IfOk, IsTrue};
-ghost use Rattle.book.specs.Continuation.{entry_if, holds_all};
-ghost use Rattle.book.specs.Entries.{entries_view};
-ghost use Rattle.book.specs.History.{Calibrated};
 ghost use Rattle.book.specs.Values.{calibration_option, hold_view, identity_view, reservation_view, stamp_view};
+ghost use Rattle.book.specs.{Continuation.entry_if, Continuation.holds_all, Entries.entries_view, History.Calibrated};
 ghost use Rattle.operations.specs.Continuation.{entries_of, entries_of_hold, entries_of_holds, entries_of_identity};
 ghost use Rattle.operations.specs.Continuation.{entries_of_last, entries_of_sealed, entries_of_stamp};
 ghost use Rattle.operations.specs.Continuation.{identity_since_among, latest_of};

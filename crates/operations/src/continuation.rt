@@ -1,12 +1,8 @@
 //! How the history of a database goes on in a new one.
 ghost use Rattle.std.specs.Prelude.{◌≡◌, ◌⊎◌, reverse, map, option_map, Err, IfOk, IfErr, IsOk, OnOk};
-ghost use Rattle.std.specs.Prelude.{Ok};
-ghost use Rattle.std.specs.List.{list_any};
-ghost use Rattle.book.specs.Continuation.{closed, holds_all};
-ghost use Rattle.book.specs.Fault.{IsOfStorage};
-ghost use Rattle.book.specs.History.{History, holds};
-ghost use Rattle.book.specs.Stands.{OnlyLooks, Stands};
-ghost use Rattle.book.specs.Values.{hold_view, stamp_view};
+ghost use Rattle.std.specs.{Prelude.Ok, List.list_any};
+ghost use Rattle.book.specs.{Continuation.closed, Continuation.holds_all, Fault.IsOfStorage, History.History};
+ghost use Rattle.book.specs.{History.holds, Stands.OnlyLooks, Stands.Stands, Values.hold_view, Values.stamp_view};
 ghost use Rattle.operations.specs.Continuation.{BeginsOnlyIf, Carries, Closes, IsAskedFor, IsBelow, IsCarried};
 ghost use Rattle.operations.specs.Continuation.{IsLookFault, entries_of, last_stamp_of};
 ghost use Rattle.operations.specs.DatabaseFaults.{IsOpeningFault};
@@ -62,7 +58,7 @@ pub fn continue_in<F: DatabaseFiles, N: DatabaseFiles>(
     identities_tell_who_signed();
     void_stamps_are_stated();
     let room = new.files.may_make(new.path);
-    let carried = close_at(alloc, old, Closing { floor, room })?;
+    let carried = close_at(alloc, old, BookEnd { floor, room })?;
     match make_from(alloc, new, &carried) {
         Ok(()) => Ok(()),
         Err(fault) => Err(ContinuationFault::Unfinished(fault)),
@@ -71,14 +67,14 @@ pub fn continue_in<F: DatabaseFiles, N: DatabaseFiles>(
 
 /// What closes a history for tokens, and answers what is carried on from it.
 #[derive(Clone, Copy)]
-struct Closing {
+struct BookEnd {
     /// Above what it goes on.
     floor: Option<Floor>,
     /// Whether there is room for the new one.
     room: Result<(), StoreFault>,
 }
 
-impl Operation<(), ()> for Closing {
+impl Operation<(), ()> for BookEnd {
     type Answer = Result<Carried, ContinuationFault>;
 
     ghost answers = { λ closing _ _ _ _ done. BeginsOnlyIf (IsOk closing.room) done };
@@ -103,7 +99,7 @@ impl Operation<(), ()> for Closing {
 fn close_at<F: DatabaseFiles>(
     alloc: Global,
     database: Database<'_, F>,
-    closing: Closing,
+    closing: BookEnd,
 ) -> Result<Carried, ContinuationFault>
     requires { IfErr closing.room IsOpeningFault }
     ensures closed { IfOk result (λ carried. IsDoneOver F.Disk.Disk F.held (λ g opened left.
@@ -122,7 +118,7 @@ fn close_at<F: DatabaseFiles>(
 fn carry<B: Book>(
     alloc: Global,
     book: &mut B,
-    closing: Closing,
+    closing: BookEnd,
 ) -> Result<Carried, ContinuationFault>
     ensures done { IfErr closing.room IsOpeningFault → Carries B.Standing closing.floor book.old book.new result }
     ensures room { BeginsOnlyIf (IsOk closing.room) result }

@@ -3,13 +3,10 @@ ghost use Rattle.std.specs.Prelude.{[], ℕ, List, IfErr, IfOk, OnOk, Result};
 ghost use Rattle.sqlite_wal.specs.Recovery.{Image};
 ghost use Rattle.sqlite.specs.Files.{over_files};
 ghost use Rattle.tables.specs.Base.{IsHonest, IsOpen};
-ghost use Rattle.store.specs.Files.{MigratesFound};
-ghost use Rattle.store.specs.Stands.{over_tables};
+ghost use Rattle.store.specs.{Files.MigratesFound, Stands.over_tables};
 ghost use Rattle.book.specs.Entries.{FitInTurn, entries_view, with_all};
-ghost use Rattle.book.specs.Stands.{Stands};
-ghost use Rattle.book.specs.declared.fault.StoreFault.{StoreFault as SpecFault};
-ghost use Rattle.operations.specs.DatabaseFaults.{IsOpeningFault};
-ghost use Rattle.operations.specs.OverFiles.{IsMadeOver, IsOpenedOver};
+ghost use Rattle.book.specs.{Stands.Stands, declared.fault.StoreFault.StoreFault as SpecFault};
+ghost use Rattle.operations.specs.{DatabaseFaults.IsOpeningFault, OverFiles.IsMadeOver, OverFiles.IsOpenedOver};
 
 use book::{Book, Entry, StoreFault};
 use sqlite::FileStore;

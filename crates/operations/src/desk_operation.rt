@@ -3,13 +3,11 @@ ghost use Rattle.std.specs.Prelude.{◌≡◌, ◌⊎◌, IfOk, IfErr, OnErr};
 ghost use Rattle.book.specs.declared.standing.Standing.{Ghosts};
 ghost use Rattle.cms.specs.declared.signer.Signer.{Ghosts as Signs};
 ghost use Rattle.desk.specs.Calls.{settings_view};
-ghost use Rattle.policy.specs.Record.{PolicyValue};
-ghost use Rattle.policy.specs.View.{policy_view};
-ghost use Rattle.operations.specs.DatabaseFaults.{IsStartingFault, IsUnready};
-ghost use Rattle.operations.specs.OverFiles.{IsDoneOver, IsUnopenedAs};
+ghost use Rattle.policy.specs.{Record.PolicyValue, View.policy_view};
 ghost use Rattle.operations.specs.Visits.{IsUnopened, IsUnvisited, IsVisited, Visit, visit_of};
 ghost use Rattle.operations.specs.declared.fault.OperationFault.{OperationFault as SpecFault};
-ghost use Rattle.operations.specs.declared.fault.OperationFault.TheVariants.{Store};
+ghost use Rattle.operations.specs.{DatabaseFaults.IsStartingFault, DatabaseFaults.IsUnready, OverFiles.IsDoneOver};
+ghost use Rattle.operations.specs.{OverFiles.IsUnopenedAs, declared.fault.OperationFault.TheVariants.Store};
 
 use crate::database::{Database, DatabaseFiles};
 use crate::fault::OperationFault;

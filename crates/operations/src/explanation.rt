@@ -1,9 +1,7 @@
 //! How a stamp that the database at a path keeps is explained.
 ghost use Rattle.std.specs.Prelude.{◌⊎◌, IfErr, IfOk, option_map};
 ghost use Rattle.policy.specs.View.{policy_view};
-ghost use Rattle.book.specs.Fault.{IsOfStorage};
-ghost use Rattle.book.specs.History.{History};
-ghost use Rattle.book.specs.Stands.{OnlyLooks, Stands};
+ghost use Rattle.book.specs.{Fault.IsOfStorage, History.History, Stands.OnlyLooks, Stands.Stands};
 ghost use Rattle.operations.specs.DatabaseFaults.{IsOpeningFault};
 ghost use Rattle.operations.specs.Explanations.{Explains, IsExplainedOver, IsExplanationOf, IsLookedAtOver};
 

@@ -1,9 +1,9 @@
 //! What this machine gives: the files of its databases, and the signers that it reaches.
 ghost use Rattle.std.specs.Prelude.{◌≡◌, IfErr, IfOk};
 ghost use Rattle.store.specs.Files.{IsFreeAt, image_at};
-ghost use Rattle.operations.specs.DatabaseFaults.{IsOpeningFault, IsUnreached};
-ghost use Rattle.operations.specs.OverFiles.{IsAny, IsClosedAs, IsReached};
-ghost use Rattle.operations.specs.Signing.{IsOfKind, algorithm_of};
+ghost use Rattle.operations.specs.{DatabaseFaults.IsOpeningFault, DatabaseFaults.IsUnreached, OverFiles.IsAny};
+ghost use Rattle.operations.specs.{OverFiles.IsClosedAs, OverFiles.IsReached, SignerSource.IsOfKind};
+ghost use Rattle.operations.specs.{SignerSource.algorithm_of};
 
 use crate::database::{DatabaseFiles, OpenDatabase};
 use crate::fault::OperationFault;
@@ -74,7 +74,7 @@ impl<D: Disk + Drop> OpenDatabase for Store<FileStore<D>> {
 
 /// Who signs.
 #[derive(Drop)]
-pub enum Signing<'a> {
+pub enum SignerSource<'a> {
     /// The stand-in, a keyed hash.
     Keyed(KeyedHash),
     /// A key holder, by signatures of an algorithm. Once the database is open a connection is made to it. `serve` makes
@@ -99,14 +99,14 @@ pub enum Renewal {
     },
 }
 
-impl Signing<'_> {
+impl SignerSource<'_> {
     /// The algorithm of the signatures. Takes no memory.
     pub fn algorithm(&self) -> &Algorithm
         ensures { result.now ≡ algorithm_of self.now }
     {
         match self {
-            Signing::Keyed(signer) => signer.algorithm(),
-            Signing::Session {
+            SignerSource::Keyed(signer) => signer.algorithm(),
+            SignerSource::Session {
                 address: _,
                 algorithm,
             } => algorithm,
@@ -120,7 +120,7 @@ pub struct HostSigners<'a> {
     /// Its system.
     pub rt: &'a HostRuntime,
     /// Who signs.
-    pub signing: Signing<'a>,
+    pub signing: SignerSource<'a>,
     /// Whether another session with the key holder is opened where one was lost.
     pub renewal: Renewal,
 }
@@ -148,8 +148,8 @@ impl<'a> Signers for HostSigners<'a> {
         } = self;
         let limit = Duration::from_secs(SIGNER_SECONDS);
         match signing {
-            Signing::Keyed(signer) => Ok(AnySigner::Keyed(signer)),
-            Signing::Session { address, algorithm } => match renewal {
+            SignerSource::Keyed(signer) => Ok(AnySigner::Keyed(signer)),
+            SignerSource::Session { address, algorithm } => match renewal {
                 Renewal::Never => {
                     let session = connect_signer(rt, address, limit, algorithm);
                     Ok(AnySigner::Session(session.or(Err(OperationFault::Unreached))?))

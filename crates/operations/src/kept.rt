@@ -1,15 +1,9 @@
 //! What a book keeps that a stamp is judged by.
 ghost use Rattle.std.specs.Prelude.{◌≡◌, ◌⊎◌, ◌-◌, ◌++◌, ◌∷◌, [], List, IfOk, IfErr};
 ghost use Rattle.book.specs.Fault.{CountsFaults, IsOfStorage};
-ghost use Rattle.book.specs.History.{History};
-ghost use Rattle.book.specs.Rows.{StampRow};
-ghost use Rattle.book.specs.Stands.{OnlyLooks, Stands};
-ghost use Rattle.book.specs.Values.{stamp_view};
+ghost use Rattle.book.specs.{History.History, Rows.StampRow, Stands.OnlyLooks, Stands.Stands, Values.stamp_view};
 ghost use Rattle.judgement.specs.Explanation.{IsExplanation};
-ghost use Rattle.judgement.specs.Judged.{IsJudgedBehind};
-ghost use Rattle.judgement.specs.Past.{IsPast};
-ghost use Rattle.judgement.specs.Readings.{evidence_in};
-ghost use Rattle.judgement.specs.View.{evidence_view};
+ghost use Rattle.judgement.specs.{Judged.IsJudgedBehind, Past.IsPast, Readings.evidence_in, View.evidence_view};
 ghost use Rattle.operations.specs.Kept.{IsKept, rows_before};
 ghost use Rattle.policy.specs.View.{policy_view};
 

@@ -25,7 +25,7 @@ pub use database::{Database, DatabaseFiles, OpenDatabase, init, migrate};
 pub use desk_operation::{DatabaseDesk, DeskOperation, SignedDesk, perform_at_desk};
 pub use explanation::explain;
 pub use fault::{ContinuationFault, OperationFault};
-pub use host::{HostFiles, HostSigners, Renewal, Signing};
+pub use host::{HostFiles, HostSigners, Renewal, SignerSource};
 pub use laws::journeys_go_over_continuations;
 pub use question::{Question, answer};
 pub use signers::{AnySigner, HostSigner, Signers};

@@ -1,9 +1,7 @@
 //! What is done to the history of the database at a path.
 ghost use Rattle.std.specs.Prelude.{◌≡◌, IfErr, IfOk, OnErr, Result};
-ghost use Rattle.book.specs.declared.fault.StoreFault.{StoreFault as SpecFault};
-ghost use Rattle.book.specs.declared.standing.Standing.{Ghosts};
-ghost use Rattle.operations.specs.DatabaseFaults.{IsOpeningFault};
-ghost use Rattle.operations.specs.OverFiles.{IsDoneOver};
+ghost use Rattle.book.specs.{declared.fault.StoreFault.StoreFault as SpecFault, declared.standing.Standing.Ghosts};
+ghost use Rattle.operations.specs.{DatabaseFaults.IsOpeningFault, OverFiles.IsDoneOver};
 
 use crate::database::{Database, DatabaseFiles, OpenDatabase};
 use book::{Book, StoreFault};

@@ -1,10 +1,7 @@
 //! What is known of the stamps before one.
 ghost use Rattle.std.specs.Prelude.{◌≡◌, ◌++◌, [], ◌∷◌, List, IfErr, IfOk, OnOk};
-ghost use Rattle.book.specs.Fault.{CountsFaults, IsOfStorage};
-ghost use Rattle.book.specs.History.{History, stamps_between};
-ghost use Rattle.book.specs.Rows.{StampRow};
-ghost use Rattle.book.specs.Stands.{OnlyLooks, Stands};
-ghost use Rattle.book.specs.Values.{stamp_view};
+ghost use Rattle.book.specs.{Fault.CountsFaults, Fault.IsOfStorage, History.History, History.stamps_between};
+ghost use Rattle.book.specs.{Rows.StampRow, Stands.OnlyLooks, Stands.Stands, Values.stamp_view};
 ghost use Rattle.judgement.specs.Past.{IsPast};
 
 use book::{Book, Stamp, StoreFault};

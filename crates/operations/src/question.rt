@@ -2,15 +2,11 @@
 ghost use Rattle.std.specs.Prelude.{◌⊎◌, IfOk, IfErr};
 ghost use Rattle.policy.specs.View.{policy_view};
 ghost use Rattle.decide.specs.View.{account_asked};
-ghost use Rattle.desk.specs.Answers.{reply_as};
 ghost use Rattle.desk.specs.CallContract.{IsStep, with_signer};
-ghost use Rattle.desk.specs.Calls.{settings_view};
-ghost use Rattle.desk.specs.Command.{Stamp};
-ghost use Rattle.operations.specs.Judged.{IsJudgedReply};
-ghost use Rattle.operations.specs.DatabaseFaults.{IsStartingFault};
-ghost use Rattle.operations.specs.OverFiles.{IsDoneOver, IsUnopenedAs};
-ghost use Rattle.operations.specs.Visits.{IsUnvisited, IsVisited};
+ghost use Rattle.desk.specs.{Answers.reply_as, Calls.settings_view, Command.Stamp};
 ghost use Rattle.operations.specs.declared.fault.OperationFault.TheVariants.{Store};
+ghost use Rattle.operations.specs.{Judged.IsJudgedReply, DatabaseFaults.IsStartingFault, OverFiles.IsDoneOver};
+ghost use Rattle.operations.specs.{OverFiles.IsUnopenedAs, Visits.IsUnvisited, Visits.IsVisited};
 
 use crate::database::DatabaseFiles;
 use crate::desk_operation::{DatabaseDesk, DeskOperation, SignedDesk, perform_at_desk};

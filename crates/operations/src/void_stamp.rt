@@ -1,8 +1,7 @@
 //! A void stamp in place of a history's last one.
 ghost use Rattle.std.specs.Prelude.{◌≡◌, ◌⊎◌, ◌↔◌, ◌<◌, ◌≤◌, option_map, Err, IfOk, IfErr, IfSome, IsNone};
 ghost use Rattle.gentime.specs.GenTime.{last_moment};
-ghost use Rattle.book.specs.Sound.{greatest_number};
-ghost use Rattle.book.specs.Values.{reservation_view, stamp_view};
+ghost use Rattle.book.specs.{Sound.greatest_number, Values.reservation_view, Values.stamp_view};
 ghost use Rattle.desk.specs.Continuation.{IsRestated};
 ghost use Rattle.operations.specs.VoidStamp.{ComesAfter, IsNoneAfter, IsNoneAfterIfAny, IsVoidFault, void_view};
 ghost use Rattle.operations.specs.VoidStamp.{IsUnreadable, IsUnreadAfter, IsVoidFor, IsVoidIfAny, reserved_as};

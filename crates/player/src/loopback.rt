@@ -1,7 +1,7 @@
 //! Exchanges over loopback, with the database in memory.
 use book::Book;
 use cms::KeyedHash;
-use connections::{Clock, Listening, SystemClock, serve_connections};
+use connections::{Clock, Reactor, SystemClock, serve_connections};
 use desk::Desk;
 use sockets::Listener;
 use std::net::TcpListener;
@@ -11,7 +11,7 @@ use trials::{AtDesk, at_desk_of_work};
 #[derive(Drop)]
 struct Serving<'l> {
     rt: &'l HostRuntime,
-    listening: Listening<'l, Listener, HostRuntime>,
+    reactor: Reactor<'l, Listener, HostRuntime>,
     count: u32,
 }
 
@@ -22,7 +22,7 @@ impl AtDesk for Serving<'_> {
         signer: &mut KeyedHash,
     ) -> anyhow::Result<()> {
         let mut clock = SystemClock::new(self.rt);
-        serve_connections(&mut self.listening, self.count, &mut clock, desk, signer)?;
+        serve_connections(&mut self.reactor, self.count, &mut clock, desk, signer)?;
         Ok(())
     }
 }
@@ -33,7 +33,7 @@ fn serve_at(rt: &HostRuntime, listener: Listener, count: u32) -> anyhow::Result<
     let reading = clock.reading()?;
     let mut serving = Serving {
         rt,
-        listening: Listening::new(rt, rt, listener, None)?,
+        reactor: Reactor::new(rt, rt, listener, None)?,
         count,
     };
     at_desk_of_work(rt.alloc(), reading, &mut serving)

@@ -4,25 +4,15 @@ use Rattle.std.proofs.Common.{refl, subst, sym}
 use Rattle.gentime.specs.GenTime.{round_down}
 use Rattle.policy.specs.Record.{AccountValue, CounterValue, PolicyValue}
 use Rattle.book.specs.History.{History, count_of_day, day_of}
-use Rattle.book.specs.Stands.{Stands}
-use Rattle.book.specs.declared.standing.Standing.{Ghosts}
+use Rattle.book.specs.{Stands.Stands, declared.standing.Standing.Ghosts}
 use Rattle.decide.specs.Clock.{IsGood, IsGoodAt, gen_time}
-use Rattle.desk.specs.Agreement.{Agree}
-use Rattle.desk.specs.CallContract.{DeskValue}
-use Rattle.desk.specs.Calls.{looked_at}
-use Rattle.desk.specs.Facts.{clock_of, count_in}
-use Rattle.desk.specs.Viewers.{viewer_in}
-use Rattle.desk.specs.declared.clock_facts.Looked.{Looked}
-use Rattle.desk.proofs.stamps.Judgement.{count_same}
-use Rattle.desk.proofs.journeys.SameEffect.{facts_same}
-use Rattle.service.specs.Accounts.{IsUsedAt, account_text}
-use Rattle.service.specs.Answers.{success}
-use Rattle.service.specs.Handlers.{AnswersReport}
+use Rattle.desk.specs.{Agreement.Agree, CallContract.DeskValue, Calls.looked_at, Facts.clock_of, Facts.count_in}
+use Rattle.desk.specs.{Viewers.viewer_in, declared.clock_facts.Looked.Looked}
+use Rattle.desk.proofs.{stamps.Judgement.count_same, journeys.SameEffect.facts_same}
 use Rattle.service.specs.Reports.{IsBodyOf, Seen, tells}
-use Rattle.service.specs.Requests.{OfAccount}
-use Rattle.service.specs.Served.{Sends}
+use Rattle.service.specs.{Accounts.IsUsedAt, Accounts.account_text, Answers.success, Handlers.AnswersReport}
+use Rattle.service.specs.{Requests.OfAccount, Served.Sends, declared.served.Served.Served}
 use Rattle.service.specs.declared.answer.Media.TheVariants as media
-use Rattle.service.specs.declared.served.Served.{Served}
 
 -- what is rounded down to six digits of a fraction, or to fewer, stays on its day
 rounded_by : (tens moment : ℕ) → tens ≤ 6 → day_of (moment / 10 ^ tens * 10 ^ tens) ≡ day_of moment

@@ -5,25 +5,17 @@ use Rattle.std.proofs.KnownBytes.{Appends-nil, Appends-trans}
 use Rattle.std.proofs.lemmas.List.{take-append-le, take_all}
 use Rattle.std.specs.Io.KnownBytes.{Appends, Keeps}
 use Rattle.std.specs.Prelude.{◌≢◌, ◌⊎◌, MatchResult, Result, Ok, Err, codes}
-use Rattle.book.specs.declared.standing.Standing.{Ghosts}
-use Rattle.book.specs.History.{History}
-use Rattle.book.specs.Stands.{OnlyLooks, Stands}
-use Rattle.audit.specs.Auditor.{ComesWhere, IfUnasked, IsAllowed}
-use Rattle.audit.specs.Extract.{extract_text}
-use Rattle.audit.specs.Failures.{StopsFor}
-use Rattle.audit.specs.Fault.{count_after}
-use Rattle.audit.specs.Writes.{Writes}
-use Rattle.audit.specs.declared.fault.ExtractFault.{ExtractFault}
+use Rattle.book.specs.{declared.standing.Standing.Ghosts, History.History, Stands.OnlyLooks, Stands.Stands}
 use Rattle.audit.specs.declared.fault.ExtractFault.TheVariants.{NotAuditor, Range, Memory, Store, Write}
+use Rattle.audit.specs.{Auditor.ComesWhere, Auditor.IfUnasked, Auditor.IsAllowed, Extract.extract_text}
+use Rattle.audit.specs.{Failures.StopsFor, Fault.count_after, Writes.Writes, declared.fault.ExtractFault.ExtractFault}
 use Rattle.policy.specs.Record.{AccountValue, PolicyValue}
 use Rattle.service.specs.Answers.{AnswerValue, allow_line, answer_text, content_lines, crlf, extract_answer, head_text}
 use Rattle.service.specs.Answers.{refusal_answer, status_line, success}
 use Rattle.service.specs.auxiliary.ExtractAnswers.{SendingFails, SendsExtract, ServesExtract, extracted, kept_back}
-use Rattle.service.specs.Refusals.{refusal_of_extract}
 use Rattle.service.specs.Served.{Sends, SendsOctets, IsCutBehindHead, TellsExtractFailure}
+use Rattle.service.specs.{Refusals.refusal_of_extract, declared.refusal.Refusal.Refusal, declared.served.Served.Served}
 use Rattle.service.specs.declared.answer.Media.TheVariants as media
-use Rattle.service.specs.declared.refusal.Refusal.{Refusal}
-use Rattle.service.specs.declared.served.Served.{Served}
 use Rattle.service.specs.declared.served.Served.TheVariants as served
 use Rattle.service.proofs.Joined.{front_of_joined}
 

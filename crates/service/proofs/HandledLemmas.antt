@@ -1,22 +1,15 @@
 -- What handlers do, out of what their checks, the desk's calls and the answers that are written say.
 use Rattle.std.proofs.Common.{◌≡◌, ℕ, ℤ, List, [], ◌∷◌, Option, Result, Ok, Err, refl, subst}
-use Rattle.book.specs.declared.standing.Standing.{Ghosts}
-use Rattle.book.specs.Readers.{Reader}
-use Rattle.book.specs.Stands.{OnlyLooks}
+use Rattle.book.specs.{declared.standing.Standing.Ghosts, Readers.Reader, Stands.OnlyLooks}
 use Rattle.cms.specs.declared.signer.SignerFault.{SignerFault}
-use Rattle.desk.specs.Command.{Command, Answer}
-use Rattle.desk.specs.Asked.{right_command}
 use Rattle.desk.specs.CallContract.{DeskValue, IsStep, no_signer}
-use Rattle.desk.specs.declared.rights.Change.{Change}
 use Rattle.desk.specs.declared.rights.Change.TheVariants.{Give, Take}
+use Rattle.desk.specs.{Command.Command, Command.Answer, Asked.right_command, declared.rights.Change.Change}
 use Rattle.policy.specs.Record.{AccountValue}
-use Rattle.service.specs.Answers.{AnswerValue, answer_to, refusal_answer}
-use Rattle.service.specs.auxiliary.ExtractAnswers.{ServesExtract}
-use Rattle.service.specs.Handlers.{AnswersReport, Handles}
 use Rattle.service.specs.Requests.{Asked, Report, Step, Look, Extract}
-use Rattle.service.specs.Served.{Sends, Steps, Tells, plainly}
-use Rattle.service.specs.declared.refusal.Refusal.{Refusal}
-use Rattle.service.specs.declared.served.Served.{Served}
+use Rattle.service.specs.{auxiliary.ExtractAnswers.ServesExtract, Handlers.AnswersReport, Handlers.Handles}
+use Rattle.service.specs.{Answers.AnswerValue, Answers.answer_to, Answers.refusal_answer, Served.Sends, Served.Steps}
+use Rattle.service.specs.{Served.Tells, Served.plainly, declared.refusal.Refusal.Refusal, declared.served.Served.Served}
 use Rattle.service.proofs.ServingLemmas.{sends, refusing, answering_auditor, reporting}
 
 module _ {W B X : Type 0} (g : Ghosts B) (signs : X → List ℕ → Result (List ℕ) SignerFault → X → Type 0) (count : X → ℕ)

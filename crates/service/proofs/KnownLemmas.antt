@@ -1,26 +1,19 @@
 -- Octets that begin with a head, or with none.
 use Rattle.std.proofs.Common.{◌≡◌, ◌∙◌, ℕ, ◌+◌, ◌<◌, ◌≤◌, List, [], ◌∷◌, ◌++◌, All, length, take, drop, refl, sym}
 use Rattle.std.proofs.Common.{ap, subst, append-nil, length-append, length-take-le, length-drop, arith, inl}
-use Rattle.std.proofs.Common.{Bool, true, false, Ok, Err}
 use Rattle.std.proofs.lemmas.List.{take-append-drop, take-append-le, take_all, take_at, length-take, length-map}
-use Rattle.std.proofs.lemmas.List.Elements.{All-weaker}
+use Rattle.std.proofs.{Common.Bool, Common.true, Common.false, Common.Ok, Common.Err, lemmas.List.Elements.All-weaker}
 use Rattle.httparse.specs.Grammar.{print_request, print_blank, print_version, print_end, print_section}
-use Rattle.httparse.specs.Grammar.{HasNoRequest, ReadsRequest}
 use Rattle.httparse.specs.Spans.{IsRequestWithin, IsRequestAt, IsRequestOf, RequestOverflows, header_bytes}
-use Rattle.httparse.specs.Spans.{IsHeaderWithin, name_and_value}
-use Rattle.httparse.specs.declared.spans.HeaderSpan.{HeaderSpan}
-use Rattle.httparse.specs.declared.spans.RequestSpans.{RequestSpans}
+use Rattle.httparse.specs.{Grammar.HasNoRequest, Grammar.ReadsRequest, Spans.IsHeaderWithin, Spans.name_and_value}
+use Rattle.httparse.specs.{declared.spans.HeaderSpan.HeaderSpan, declared.spans.RequestSpans.RequestSpans}
 use Rattle.httparse.proofs.GrammarLemmas.{print_request-append, ReadsRequest-append, request_unique}
 use Rattle.service.specs.Heads.{most_octets, most_fields, HasNoHead, NeverHasHead, MayBegin, IsBegun}
-use Rattle.service.specs.Heads.{IsHeadless}
-use Rattle.service.specs.Checks.{WantedValue, wanted_by}
-use Rattle.service.specs.Heads.{head_value}
 use Rattle.service.specs.Known.{BeginsAt, IsKnown, IsParsed, IsRefusedAt, checked, headless, malformed}
-use Rattle.service.specs.Known.{out_of_memory_for_body}
 use Rattle.service.specs.Received.{IsAll, IsPartial, ends_with_body, has_no_body, in_body, with_body, without_body}
-use Rattle.service.specs.declared.known.Parsed.{Parsed}
-use Rattle.service.specs.declared.known.Refused.{Refused}
-use Rattle.service.specs.declared.refusal.Refusal.{Refusal}
+use Rattle.service.specs.{Heads.IsHeadless, Checks.WantedValue, Checks.wanted_by, Heads.head_value}
+use Rattle.service.specs.{Known.out_of_memory_for_body, declared.known.Parsed.Parsed, declared.known.Refused.Refused}
+use Rattle.service.specs.{declared.refusal.Refusal.Refusal}
 use Rattle.service.specs.declared.refusal.Refusal.TheVariants as refusal
 
 -- no octets are no head

@@ -1,31 +1,19 @@
 -- What an operator's form has, and what is answered to it.
-use Rattle.std.proofs.Common.{◌≡◌, ◌∙◌, ℕ, ℤ, List, ◌∷◌, true, false, Option, Some, Result, Ok, Err, refl, ap, inl, inr, subst}
-use Rattle.std.specs.Prelude.{IfErr}
-use Rattle.std.specs.Str.{bytes_eq}
-use Rattle.book.specs.Fault.{IsOfStorage}
+use Rattle.std.proofs.Common.{◌≡◌, ◌∙◌, ℕ, ℤ, List, ◌∷◌, true, false, Option, Some, Result, Ok, Err, refl, ap, inl, inr}
+use Rattle.std.proofs.Common.{subst}
+use Rattle.std.specs.{Prelude.IfErr, Str.bytes_eq}
 use Rattle.book.specs.declared.fault.StoreFault.{StoreFault}
-use Rattle.book.specs.declared.fault.StoreFault.TheVariants as store
-use Rattle.book.specs.declared.standing.Standing.{Ghosts}
 use Rattle.book.specs.History.{History, CalibrationValue, HoldValue, latest_calibration}
-use Rattle.book.specs.Sound.{IsBackwards}
-use Rattle.book.specs.Stands.{Stands}
+use Rattle.book.specs.{Fault.IsOfStorage, declared.standing.Standing.Ghosts, Sound.IsBackwards, Stands.Stands}
+use Rattle.book.specs.declared.fault.StoreFault.TheVariants as store
 use Rattle.cms.specs.declared.signer.SignerFault.{SignerFault}
-use Rattle.desk.specs.Answers.{entered}
-use Rattle.desk.specs.Calls.{looked_at}
 use Rattle.desk.specs.declared.clock_facts.Looked.{Looked}
+use Rattle.desk.specs.{Answers.entered, Calls.looked_at, CallContract.DeskValue, Command.Calibrate, Command.Hold}
 use Rattle.policy.specs.Record.{CounterValue}
-use Rattle.desk.specs.CallContract.{DeskValue}
-use Rattle.desk.specs.Command.{Calibrate, Hold}
-use Rattle.service.specs.Answers.{success}
-use Rattle.service.specs.Forms.{field_of}
-use Rattle.service.specs.Handlers.{AnswersReport}
-use Rattle.service.specs.Reports.{IsBodyOf, Seen, tells}
-use Rattle.service.specs.Requests.{Status}
-use Rattle.service.specs.Served.{Sends, Tells, plainly, backwards}
-use Rattle.service.specs.Status.{IsStatusText}
+use Rattle.service.specs.{Answers.success, Forms.field_of, Handlers.AnswersReport, Reports.IsBodyOf, Reports.Seen}
+use Rattle.service.specs.{Reports.tells, Requests.Status, Served.Sends, Served.Tells, Served.plainly, Served.backwards}
+use Rattle.service.specs.{Status.IsStatusText, declared.served.Served.Served, Views.added_answer}
 use Rattle.service.specs.declared.answer.Media.TheVariants as media
-use Rattle.service.specs.declared.served.Served.{Served}
-use Rattle.service.specs.Views.{added_answer}
 
 -- the first field has the name, or it is looked for among the others
 pub found_first : (name : List ℕ) (field : List ℕ × List ℕ) (fields : List (List ℕ × List ℕ))

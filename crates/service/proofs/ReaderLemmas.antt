@@ -1,11 +1,8 @@
 -- The lines of readers, one after the other.
 use Rattle.std.proofs.Common.{◌≡◌, ℕ, true, List}
 use Rattle.std.specs.List.{flat_map}
-use Rattle.book.specs.History.{History}
-use Rattle.book.specs.Readers.{Reader}
-use Rattle.book.specs.Rights.{is_own}
-use Rattle.book.specs.Stands.{OnlyLooks, Stands}
 use Rattle.book.specs.declared.standing.Standing.{Ghosts}
+use Rattle.book.specs.{History.History, Readers.Reader, Rights.is_own, Stands.OnlyLooks, Stands.Stands}
 use Rattle.service.specs.Readers.{reader_line}
 
 -- the lines of those readers are told, and the store was only looked into

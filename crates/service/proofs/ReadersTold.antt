@@ -1,20 +1,14 @@
 -- What is told of the readers of a deposit, out of what is found.
 use Rattle.std.proofs.Common.{◌≡◌, ◌∙◌, ℕ, Bool, true, false, List, Option, refl, sym}
-use Rattle.book.specs.History.{History}
-use Rattle.book.specs.Stands.{OnlyLooks, Stands}
 use Rattle.book.specs.declared.standing.Standing.{Ghosts}
+use Rattle.book.specs.{History.History, Stands.OnlyLooks, Stands.Stands, Rights.is_own}
 use Rattle.policy.specs.Record.{AccountValue}
 use Rattle.desk.specs.CallContract.{DeskValue}
-use Rattle.service.specs.Answers.{refusal_answer, success}
-use Rattle.service.specs.Handlers.{AnswersReport}
-use Rattle.book.specs.Rights.{is_own}
-use Rattle.service.specs.Readers.{readers_text}
 use Rattle.service.specs.Reports.{IsBodyOf, IsOwnWhere, IsRefusedBy, Seen, keeps_back, tells}
-use Rattle.service.specs.Requests.{OfReaders}
-use Rattle.service.specs.Served.{Sends}
+use Rattle.service.specs.{Answers.refusal_answer, Answers.success, Handlers.AnswersReport, Readers.readers_text}
+use Rattle.service.specs.{Requests.OfReaders, Served.Sends, declared.served.Served.Served}
 use Rattle.service.specs.declared.answer.Media.TheVariants as media
 use Rattle.service.specs.declared.refusal.Refusal.TheVariants as refusal
-use Rattle.service.specs.declared.served.Served.{Served}
 
 module _ {B W : Type 0} (g : Ghosts B) (contents : W → Option (List ℕ)) (seen : Seen) (w w' : W) (old new : DeskValue B)
     (account : AccountValue) (number : ℕ) (outcome : Served) (mid : B) (own : Bool)

@@ -3,19 +3,14 @@ use Rattle.std.proofs.Common.{◌≡◌, ◌∙◌, ℕ, ◌+◌, ◌<◌, ◌�
 use Rattle.std.proofs.Common.{ap, subst, arith, inl, inr, length-drop, length-take-le, ltb, refl, sym}
 use Rattle.std.proofs.lemmas.Bool.{cases_lt, lt-ltb, le-ltb, ltb-true}
 use Rattle.std.proofs.lemmas.List.{take-append-drop}
-use Rattle.httparse.specs.Grammar.{print_request}
-use Rattle.httparse.specs.declared.spans.HeaderSpan.{HeaderSpan}
-use Rattle.service.specs.Heads.{head_value}
+use Rattle.httparse.specs.{Grammar.print_request, declared.spans.HeaderSpan.HeaderSpan}
 use Rattle.service.specs.Known.{IsBehind, IsDue, IsKept, IsParsed, IsRefused, is_wanting, received}
 use Rattle.service.specs.Known.{IsAnswerable, taken_of, out_of_memory_for_body}
 use Rattle.service.specs.Received.{IsPartial, in_head, is_open}
+use Rattle.service.specs.{Heads.head_value, Views.IsInPlace, Views.head_view, declared.head.Head.Head}
+use Rattle.service.specs.{declared.known.Known.Known, declared.known.Parsed.Parsed, declared.refusal.Refusal.Refusal}
 use Rattle.service.specs.declared.due.Due.TheVariants as due
-use Rattle.service.specs.Views.{IsInPlace, head_view}
-use Rattle.service.specs.declared.head.Head.{Head}
-use Rattle.service.specs.declared.known.Known.{Known}
 use Rattle.service.specs.declared.known.Known.TheVariants as known
-use Rattle.service.specs.declared.known.Parsed.{Parsed}
-use Rattle.service.specs.declared.refusal.Refusal.{Refusal}
 use Rattle.service.specs.declared.refusal.Refusal.TheVariants as refusal
 use Rattle.service.proofs.KnownLemmas.{behind_head, has_head, head_octets, no_octets, parsed_more, partial_body}
 use Rattle.service.proofs.KnownLemmas.{take_less}

@@ -1,16 +1,13 @@
 -- The definitions, computed on rows.
 use Rattle.std.proofs.Common.{◌≡◌, ℕ, ◌+◌, ◌==◌, Bool, false, pos, List, [], ◌∷◌, ◌++◌, Some, None, Ok, Err, refl}
-use Rattle.std.specs.List.{flat_map}
-use Rattle.std.specs.Fmt.{digits}
-use Rattle.std.specs.Prelude.{codes, if◌then◌else◌}
+use Rattle.std.specs.{List.flat_map, Fmt.digits, Prelude.codes, Prelude.if◌then◌else◌}
 use Rattle.httparse.specs.Grammar.{trim_ows}
 use Rattle.matchit.proofs.OnLiterals.{matchit_on_literals}
 use Rattle.tsp.specs.declared.rule.Rule.TheVariants as rule
 use Rattle.service.specs.Answers.{answer_text, refusal_answer, crlf, line_feed, head_text}
-use Rattle.service.specs.Checks.{wanted_by, wanted_at, type_in}
-use Rattle.service.specs.Heads.{HeadValue}
 use Rattle.service.specs.Numbers.{is_digits, length_in, number_in}
 use Rattle.service.specs.Routes.{methods_at, names_of, nothing, on_right, routes, segment, segments, table}
+use Rattle.service.specs.{Checks.wanted_by, Checks.wanted_at, Checks.type_in, Heads.HeadValue}
 use Rattle.service.specs.declared.refusal.Refusal.TheVariants as refusal
 use Rattle.service.specs.declared.routes.Action.TheVariants as action
 use Rattle.service.specs.declared.routes.DepositAction.TheVariants as deposit

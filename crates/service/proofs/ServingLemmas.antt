@@ -3,27 +3,21 @@ use Rattle.std.proofs.Common.{◌≡◌, ◌∙◌, ℕ, ℤ, true, List, [], �
 use Rattle.std.proofs.Common.{ap, arith, refl, inl, inr, subst, sym}
 use Rattle.std.proofs.lemmas.List.{take_all}
 use Rattle.std.specs.Io.KnownBytes.{Consumes, IsAtEnd}
-use Rattle.book.specs.declared.standing.Standing.{Ghosts}
-use Rattle.book.specs.Stands.{OnlyLooks}
+use Rattle.book.specs.{declared.standing.Standing.Ghosts, Stands.OnlyLooks}
 use Rattle.cms.specs.declared.signer.SignerFault.{SignerFault}
 use Rattle.desk.specs.MachineRuns.{Told}
 use Rattle.policy.specs.Record.{AccountValue, PolicyValue}
-use Rattle.service.specs.Answers.{AnswerValue, refusal_answer, unavailable}
-use Rattle.service.specs.Refusals.{refusal_of_extract}
-use Rattle.service.specs.Reports.{IsRefusedBy, keeps_back}
 use Rattle.service.specs.auxiliary.ExtractAnswers.{ServesExtract, extracted, kept_back}
 use Rattle.service.specs.Known.{IsAnswerable, IsDue, checked, malformed, out_of_memory, out_of_memory_for_body}
-use Rattle.service.specs.Received.{ReceivedValue, in_body, in_head}
 use Rattle.service.specs.Requests.{Report, Look, Extract, IsEarly, IsPart, IsRequest, asked_by, cut_body, cut_head}
 use Rattle.service.specs.Requests.{head, headless, nothing, refused_head, whole}
 use Rattle.service.specs.Served.{Turn, IsIdle, IsSilent, Reads, Sends, SendsOctets, AreTaken, ReportsAt, IsAnswer}
 use Rattle.service.specs.Served.{refuses, looks, wants_early, Extracts, Serves}
-use Rattle.service.specs.Views.{head_view}
+use Rattle.service.specs.{Answers.AnswerValue, Answers.refusal_answer, Answers.unavailable, Refusals.refusal_of_extract}
+use Rattle.service.specs.{Reports.IsRefusedBy, Reports.keeps_back, Received.ReceivedValue, Received.in_body}
+use Rattle.service.specs.{Received.in_head, Views.head_view, declared.head.Head.Head, declared.refusal.Refusal.Refusal}
+use Rattle.service.specs.{declared.routes.Action.Action, declared.served.Served.Served}
 use Rattle.service.specs.declared.due.Due.TheVariants as due
-use Rattle.service.specs.declared.head.Head.{Head}
-use Rattle.service.specs.declared.refusal.Refusal.{Refusal}
-use Rattle.service.specs.declared.routes.Action.{Action}
-use Rattle.service.specs.declared.served.Served.{Served}
 use Rattle.service.specs.declared.served.Served.TheVariants as served
 
 -- what was read of a request is a request that is whole

@@ -1,39 +1,28 @@
 -- Octets that are a request for a stamp are nothing else.
 use Rattle.std.proofs.Common.{◌≡◌, ◌∙◌, ℕ, ℤ, Bool, false, true, List, [], ◌++◌, Option, Some, Result, Ok, Err, codes}
-use Rattle.std.proofs.Common.{length, take}
 use Rattle.std.proofs.Common.{Bor, ap, append-nil, arith, refl, inl, inr, subst, sym}
-use Rattle.std.proofs.lemmas.List.{take_all}
-use Rattle.std.specs.Prelude.{MatchOption}
-use Rattle.std.specs.Result.{result_ok}
+use Rattle.std.proofs.{Common.length, Common.take, lemmas.List.take_all}
+use Rattle.std.specs.{Prelude.MatchOption, Result.result_ok}
 use Rattle.httparse.specs.Grammar.{RequestHead, print_request}
 use Rattle.httparse.proofs.GrammarLemmas.{request_unique}
-use Rattle.desk.specs.Batches.{Question, stamp_for}
-use Rattle.desk.specs.Command.{Stamp}
-use Rattle.desk.specs.Together.{question_view}
 use Rattle.desk.specs.declared.batch.Asked.{Asked as AskedStamp}
-use Rattle.policy.specs.Record.{AccountValue, PolicyValue}
-use Rattle.policy.specs.LookUp.{account_of_key, anonymous_account}
+use Rattle.desk.specs.declared.rights.Change.TheVariants.{Give, Take}
+use Rattle.desk.specs.{Batches.Question, Batches.stamp_for, Command.Stamp, Together.question_view}
+use Rattle.policy.specs.{Record.AccountValue, Record.PolicyValue, LookUp.account_of_key, LookUp.anonymous_account}
 use Rattle.service.specs.Checks.{◌>>=◌, WantedValue, account_by, is_stamp, wanted_by}
-use Rattle.service.specs.Fields.{Stated, Never, Once, Twice, stated}
-use Rattle.service.specs.Heads.{HeadValue, IsHead, BeginsWith, head_value}
 use Rattle.service.specs.Known.{IsAnswerable, IsDue, IsRefused, checked, malformed, out_of_memory}
-use Rattle.service.specs.Known.{out_of_memory_for_body}
 use Rattle.service.specs.Received.{IsPartial, ReceivedValue, in_body, in_head}
 use Rattle.service.specs.Requests.{Asked, Found, IsRequest, Step, asked_by, asked_of, found_by}
 use Rattle.service.specs.Requests.{cut_body, cut_head, headless, refused_head, whole}
-use Rattle.service.specs.Stamps.{AsksStamp}
-use Rattle.service.specs.Views.{head_view, result_by}
-use Rattle.service.specs.declared.due.Due.{Due}
+use Rattle.service.specs.{Fields.Stated, Fields.Never, Fields.Once, Fields.Twice, Fields.stated, Heads.HeadValue}
+use Rattle.service.specs.{Heads.IsHead, Heads.BeginsWith, Heads.head_value, Known.out_of_memory_for_body}
+use Rattle.service.specs.{Stamps.AsksStamp, Views.head_view, Views.result_by, declared.due.Due.Due}
+use Rattle.service.specs.{declared.head.Head.Head, declared.refusal.Refusal.Refusal, declared.routes.Action.Action}
 use Rattle.service.specs.declared.due.Due.TheVariants as due
-use Rattle.service.specs.declared.head.Head.{Head}
-use Rattle.service.specs.declared.refusal.Refusal.{Refusal}
 use Rattle.service.specs.declared.refusal.Refusal.TheVariants as refusal
-use Rattle.service.specs.declared.routes.Action.{Action}
 use Rattle.service.specs.declared.routes.Action.TheVariants as action
-use Rattle.desk.specs.declared.rights.Change.TheVariants.{Give, Take}
 use Rattle.service.specs.declared.routes.DepositAction.TheVariants as deposit
-use Rattle.service.proofs.KnownLemmas.{no_octets}
-use Rattle.service.proofs.ServingLemmas.{answerable}
+use Rattle.service.proofs.{KnownLemmas.no_octets, ServingLemmas.answerable}
 
 -- what comes behind a check isn't given where it never is
 bound : {A : Type 0} (m : Result A Refusal) (next : A → Result Asked Refusal) (asked : Asked)

@@ -1,15 +1,12 @@
 -- What the counter tells an account of itself: lines of a word and what it names, of the policy file and of a look at
 -- the store.
 use Rattle.std.specs.Prelude.{◌≡◌, ℕ, Bool, List, [], ◌++◌, codes, Option, Some, None, if◌then◌else◌}
-use Rattle.std.specs.Fmt.{decimal}
-use Rattle.std.specs.List.{flat_map}
+use Rattle.std.specs.{Fmt.decimal, List.flat_map}
 use Rattle.der.specs.ObjectIdentifier.{oid_text}
-use Rattle.policy.specs.Kinds.{is_among}
-use Rattle.policy.specs.LookUp.{groups_of, policy_named}
 use Rattle.policy.specs.Record.{AccountValue, AlgorithmValue, CounterValue, ExtensionValue, PolicyValue, TsaPolicyValue}
+use Rattle.policy.specs.{Kinds.is_among, LookUp.groups_of, LookUp.policy_named}
 use Rattle.book.specs.History.{History, count_of_day, day_of}
-use Rattle.decide.specs.Clock.{IsGood}
-use Rattle.decide.specs.declared.facts.ClockFacts.{ClockFacts}
+use Rattle.decide.specs.{Clock.IsGood, declared.facts.ClockFacts.ClockFacts}
 use Rattle.service.specs.Status.{named, or_none, yes_or_no}
 
 -- a word, a name and its object identifier on a line

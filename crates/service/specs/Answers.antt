@@ -1,21 +1,17 @@
 -- Answers, and their texts (RFC 9112 4 and 6).
 use Rattle.std.specs.Prelude.{ℕ, ℤ, true, false, List, [], ◌∷◌, ◌++◌, length, codes, Option, Some, None}
-use Rattle.std.specs.Fmt.{decimal}
-use Rattle.std.specs.List.{flat_map}
+use Rattle.std.specs.{Fmt.decimal, List.flat_map}
 use Rattle.http.specs.StatusCode.{reason_phrase}
 use Rattle.gentime.specs.GenTime.{text_of}
 use Rattle.der.specs.Node.{encoding}
 use Rattle.tsp.specs.Rejection.{rejection}
-use Rattle.book.specs.History.{History}
-use Rattle.book.specs.Rights.{ListedValue}
+use Rattle.book.specs.{History.History, Rights.ListedValue}
 use Rattle.audit.specs.Extract.{extract_text}
 use Rattle.desk.specs.Command.{Command, Show}
 use Rattle.desk.specs.Command.{Answer, Stamped, Rejected, Begun, Kept, Numbered, Shown, Listed, Done, Refused}
 use Rattle.service.specs.Refusals.{status_of, word_of, refusal_of}
-use Rattle.service.specs.Routes.{names_of}
-use Rattle.service.specs.declared.answer.Media.{Media}
+use Rattle.service.specs.{Routes.names_of, declared.answer.Media.Media, declared.refusal.Refusal.Refusal}
 use Rattle.service.specs.declared.answer.Media.TheVariants as media
-use Rattle.service.specs.declared.refusal.Refusal.{Refusal}
 use Rattle.service.specs.declared.refusal.Refusal.TheVariants as refusal
 
 -- the media types (RFC 3161 3.4, RFC 2046 4, RFC 4180 3)

@@ -1,21 +1,15 @@
 -- The checks of a request that has a head, each a sentence that stands by itself, and their order: the first that
 -- fails refuses it.
 use Rattle.std.specs.Prelude.{ℕ, ◌==◌, nat_le, Bool, true, false, ◌||◌, List, codes, Option, Some, None, Result, Ok}
-use Rattle.std.specs.Prelude.{Err, if◌then◌else◌}
-use Rattle.std.specs.List.{before_first}
-use Rattle.std.specs.Str.{bytes_eq}
+use Rattle.std.specs.{Prelude.Err, Prelude.if◌then◌else◌, List.before_first, Str.bytes_eq}
 use Rattle.httparse.specs.Grammar.{trim_ows}
-use Rattle.policy.specs.LookUp.{account_of_key, anonymous_account}
-use Rattle.policy.specs.Record.{AccountValue, PolicyValue}
+use Rattle.policy.specs.{LookUp.account_of_key, LookUp.anonymous_account, Record.AccountValue, Record.PolicyValue}
 use Rattle.service.specs.Fields.{Stated, Never, Once, Twice, stated, same_letters}
-use Rattle.service.specs.Heads.{HeadValue}
-use Rattle.service.specs.Numbers.{length_in, number_in, is_reference}
-use Rattle.service.specs.Routes.{methods_at, action_of, segment}
-use Rattle.service.specs.declared.refusal.Refusal.{Refusal}
+use Rattle.service.specs.{Heads.HeadValue, Numbers.length_in, Numbers.number_in, Numbers.is_reference}
+use Rattle.service.specs.{Routes.methods_at, Routes.action_of, Routes.segment, declared.refusal.Refusal.Refusal}
+use Rattle.service.specs.{declared.routes.Action.Action, declared.routes.Methods.Methods}
 use Rattle.service.specs.declared.refusal.Refusal.TheVariants as refusal
-use Rattle.service.specs.declared.routes.Action.{Action}
 use Rattle.service.specs.declared.routes.Action.TheVariants as action
-use Rattle.service.specs.declared.routes.Methods.{Methods}
 
 -- one check after another
 infixl 10 ◌>>=◌

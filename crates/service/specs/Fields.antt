@@ -1,7 +1,6 @@
 -- Field lines of a head, by their names in letters of any case (RFC 9110 5.1).
 use Rattle.std.specs.Prelude.{ℕ, Bool, List, [], ◌∷◌, map, filter}
-use Rattle.std.specs.Char.{to_ascii_lowercase}
-use Rattle.std.specs.Str.{bytes_eq}
+use Rattle.std.specs.{Char.to_ascii_lowercase, Str.bytes_eq}
 
 -- the same letters in any case
 abbrev pub same_letters : List ℕ → List ℕ → Bool

@@ -1,13 +1,11 @@
 -- What the forms of operators state. A form's fields are those of the URL Standard 5.1; names and values are taken as
 -- they stand, since a form in which they are right has nothing to escape.
 use Rattle.std.specs.Prelude.{ℕ, ◌==◌, nat_le, nat_lt, pos, List, length, find, codes, Option, Some, None, option_map}
-use Rattle.std.specs.Prelude.{Result, Ok}
-use Rattle.std.specs.Str.{bytes_eq}
+use Rattle.std.specs.{Prelude.Result, Prelude.Ok, Str.bytes_eq}
 use Rattle.form_urlencoded.specs.Form.{raw_pairs}
 use Rattle.book.specs.History.{CalibrationValue, HoldValue}
 use Rattle.service.specs.Checks.{◌>>=◌, given_or, check}
-use Rattle.service.specs.Numbers.{micros_in, signed_in}
-use Rattle.service.specs.declared.refusal.Refusal.{Refusal}
+use Rattle.service.specs.{Numbers.micros_in, Numbers.signed_in, declared.refusal.Refusal.Refusal}
 use Rattle.service.specs.declared.refusal.Refusal.TheVariants as refusal
 
 -- the value of a field

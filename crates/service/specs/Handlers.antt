@@ -2,15 +2,10 @@
 use Rattle.std.specs.Prelude.{ℕ, ℤ, List, Option, Result}
 use Rattle.book.specs.declared.standing.Standing.{Ghosts}
 use Rattle.cms.specs.declared.signer.SignerFault.{SignerFault}
-use Rattle.desk.specs.CallContract.{DeskValue}
-use Rattle.desk.specs.MachineRuns.{Told}
-use Rattle.service.specs.Heads.{HeadValue}
-use Rattle.service.specs.Answers.{AnswerValue}
-use Rattle.service.specs.Reports.{Reports, Seen}
+use Rattle.desk.specs.{CallContract.DeskValue, MachineRuns.Told}
 use Rattle.service.specs.Requests.{Asked, IsRequest, Report}
-use Rattle.service.specs.Served.{Sends, Serves}
-use Rattle.service.specs.declared.refusal.Refusal.{Refusal}
-use Rattle.service.specs.declared.served.Served.{Served}
+use Rattle.service.specs.{Heads.HeadValue, Answers.AnswerValue, Reports.Reports, Reports.Seen, Served.Sends}
+use Rattle.service.specs.{Served.Serves, declared.refusal.Refusal.Refusal, declared.served.Served.Served}
 
 -- a whole request, and the clock's reading
 pub record RequestValue : Type 0 where

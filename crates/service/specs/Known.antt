@@ -2,24 +2,16 @@
 use Rattle.std.specs.Prelude.{◌≡◌, ◌⊎◌, ℕ, ◌+◌, ◌<◌, ◌≤◌, nat_lt, Bool, true, false, List, [], ◌++◌, length}
 use Rattle.std.specs.Prelude.{take, if◌then◌else◌, Ok, Err, Option}
 use Rattle.std.specs.Io.KnownBytes.{Consumes, IsAtEnd}
-use Rattle.httparse.specs.Grammar.{RequestHead, print_request}
-use Rattle.httparse.specs.Spans.{IsRequestWithin, IsRequestAt}
-use Rattle.httparse.specs.declared.spans.HeaderSpan.{HeaderSpan}
-use Rattle.httparse.specs.declared.spans.RequestSpans.{RequestSpans}
-use Rattle.service.specs.Checks.{WantedValue, wanted_by}
+use Rattle.httparse.specs.{Grammar.RequestHead, Grammar.print_request, Spans.IsRequestWithin, Spans.IsRequestAt}
+use Rattle.httparse.specs.{declared.spans.HeaderSpan.HeaderSpan, declared.spans.RequestSpans.RequestSpans}
 use Rattle.service.specs.Heads.{IsBegun, IsHead, IsHeadless, head_value, most_octets}
 use Rattle.service.specs.Received.{IsAll, IsPartial, ReceivedValue, ends_with_body, most}
-use Rattle.service.specs.Views.{IsInPlace, head_view}
-use Rattle.service.specs.declared.due.Due.{Due}
+use Rattle.service.specs.{declared.known.Known.Known, declared.known.Parsed.Parsed, declared.known.Refused.Refused}
+use Rattle.service.specs.{Checks.WantedValue, Checks.wanted_by, Views.IsInPlace, Views.head_view, declared.due.Due.Due}
+use Rattle.service.specs.{declared.head.Head.Head, declared.refusal.Refusal.Refusal, declared.routes.Action.Action}
 use Rattle.service.specs.declared.due.Due.TheVariants as due
-use Rattle.service.specs.declared.head.Head.{Head}
-use Rattle.service.specs.declared.known.Known.{Known}
 use Rattle.service.specs.declared.known.Known.TheVariants as known
-use Rattle.service.specs.declared.known.Parsed.{Parsed}
-use Rattle.service.specs.declared.known.Refused.{Refused}
-use Rattle.service.specs.declared.refusal.Refusal.{Refusal}
 use Rattle.service.specs.declared.refusal.Refusal.TheVariants as refusal
-use Rattle.service.specs.declared.routes.Action.{Action}
 
 -- a head begins the octets, and its parts lie where they are said to
 pub record BeginsAt (octets : List ℕ) (headers : List HeaderSpan) (spans : RequestSpans) : Type 0 where

@@ -2,8 +2,7 @@
 use Rattle.std.specs.Prelude.{ℕ, ◌==◌, nat_le, ℤ, pos, neg_ℤ, Bool, ◌&&◌, ◌||◌, not, List, [], ◌∷◌, length}
 use Rattle.std.specs.Prelude.{codes, slice_index, Option, Some, None, option_map, if◌then◌else◌}
 use Rattle.std.specs.Char.{is_ascii_alphanumeric, is_ascii_digit}
-use Rattle.std.specs.List.{list_all, list_any}
-use Rattle.std.specs.Str.Parse.{digits_value}
+use Rattle.std.specs.{List.list_all, List.list_any, Str.Parse.digits_value}
 use Rattle.book.specs.Sound.{greatest_number}
 
 -- at least one decimal digit, at most so many, and nothing else

@@ -1,12 +1,9 @@
 -- What the owner of a deposit is told of its readers: a line for each account and each group of the policy file that
 -- has the right to read it.
 use Rattle.std.specs.Prelude.{ℕ, Bool, not, ◌&&◌, List, [], ◌++◌, codes, map, if◌then◌else◌}
-use Rattle.std.specs.List.{flat_map}
-use Rattle.std.specs.Str.{bytes_eq}
+use Rattle.std.specs.{List.flat_map, Str.bytes_eq}
 use Rattle.policy.specs.Record.{PolicyValue}
-use Rattle.book.specs.History.{History}
-use Rattle.book.specs.Readers.{Reader, Account, Group}
-use Rattle.book.specs.Rights.{is_reader}
+use Rattle.book.specs.{History.History, Readers.Reader, Readers.Account, Readers.Group, Rights.is_reader}
 use Rattle.service.specs.Status.{named}
 
 -- the last entry about the deposit and the reader is a grant; of the owner, who needs none, it isn't told

@@ -1,7 +1,6 @@
 -- What has come of a request, as contracts see it.
 use Rattle.std.specs.Prelude.{◌≡◌, ℕ, ◌-◌, ◌+◌, ◌<◌, Bool, true, false, ◌&&◌, ◌||◌, not, List, ◌++◌, length, codes}
-use Rattle.std.specs.Prelude.{Option, Ok, if◌then◌else◌}
-use Rattle.std.specs.Io.KnownBytes.{Consumes, IsAtEnd}
+use Rattle.std.specs.{Prelude.Option, Prelude.Ok, Prelude.if◌then◌else◌, Io.KnownBytes.Consumes, Io.KnownBytes.IsAtEnd}
 use Rattle.httparse.specs.Grammar.{RequestHead, print_request}
 use Rattle.service.specs.Checks.{WantedValue, has_body, is_never, most_body, wanted_by}
 use Rattle.service.specs.Fields.{stated}

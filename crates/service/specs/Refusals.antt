@@ -1,8 +1,7 @@
 -- Refusals, and the answers that tell them.
 use Rattle.std.specs.Prelude.{ℕ, List, codes}
 use Rattle.tsp.specs.Rejection.{number_of, reason}
-use Rattle.tsp.specs.declared.rule.Rule.{Rule}
-use Rattle.tsp.specs.declared.rule.Rule.TheVariants.{Clock}
+use Rattle.tsp.specs.{declared.rule.Rule.Rule, declared.rule.Rule.TheVariants.Clock}
 use Rattle.desk.specs.declared.fault.Fault.{Fault}
 use Rattle.desk.specs.declared.fault.Fault.TheVariants as fault
 use Rattle.audit.specs.declared.fault.ExtractFault.{ExtractFault}

@@ -1,25 +1,15 @@
 -- What reports tell, of each history that the store stood for before the look.
 use Rattle.std.specs.Prelude.{◌≡◌, ◌≢◌, ℕ, ℤ, Bool, true, false, List, Option}
-use Rattle.audit.specs.Auditor.{ComesWhere, IfUnasked}
-use Rattle.audit.specs.Fault.{count_after}
-use Rattle.audit.specs.declared.fault.ExtractFault.{ExtractFault}
-use Rattle.audit.specs.declared.fault.ExtractFault.TheVariants.{Write}
-use Rattle.book.specs.declared.standing.Standing.{Ghosts}
-use Rattle.book.specs.History.{History}
-use Rattle.book.specs.Stands.{Stands}
+use Rattle.audit.specs.{Auditor.ComesWhere, Auditor.IfUnasked, Fault.count_after}
+use Rattle.audit.specs.{declared.fault.ExtractFault.ExtractFault, declared.fault.ExtractFault.TheVariants.Write}
+use Rattle.book.specs.{declared.standing.Standing.Ghosts, History.History, Stands.Stands, Rights.is_own}
 use Rattle.policy.specs.Record.{AccountValue}
-use Rattle.desk.specs.CallContract.{DeskValue}
-use Rattle.desk.specs.Calls.{looked_at}
-use Rattle.desk.specs.Facts.{clock_of}
-use Rattle.service.specs.Accounts.{IsUsedAt, account_text}
+use Rattle.desk.specs.{CallContract.DeskValue, Calls.looked_at, Facts.clock_of}
 use Rattle.service.specs.Answers.{AnswerValue, refusal_answer, success, unavailable}
-use Rattle.book.specs.Rights.{is_own}
-use Rattle.service.specs.Readers.{readers_text}
-use Rattle.service.specs.Refusals.{refusal_of_extract}
 use Rattle.service.specs.Requests.{Report, Extract, Status, OfAccount, OfReaders, IsText}
-use Rattle.service.specs.Status.{IsStatusText}
+use Rattle.service.specs.{Accounts.IsUsedAt, Accounts.account_text, Readers.readers_text, Refusals.refusal_of_extract}
+use Rattle.service.specs.{Status.IsStatusText, declared.refusal.Refusal.Refusal}
 use Rattle.service.specs.declared.answer.Media.TheVariants as media
-use Rattle.service.specs.declared.refusal.Refusal.{Refusal}
 use Rattle.service.specs.declared.refusal.Refusal.TheVariants as refusal
 
 -- of what reports tell besides the store: the clock's reading, the signer's count of faults, and how many octets the

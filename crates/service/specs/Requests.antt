@@ -8,15 +8,12 @@ use Rattle.desk.specs.Asked.{right_command}
 use Rattle.desk.specs.Command.{Command, Stamp, Deposit, Show, Token, ListAll, Calibrate, Hold}
 use Rattle.service.specs.Checks.{◌>>=◌, WantedValue, wanted_by, account_shown, active_account, number_stated}
 use Rattle.service.specs.Checks.{reference_stated, range_stated, operator_shown, watcher_shown}
-use Rattle.service.specs.Forms.{calibration_stated, hold_stated}
 use Rattle.service.specs.Heads.{HeadValue, head_value, IsHead, IsBegun, IsHeadless}
-use Rattle.service.specs.Received.{IsPartial}
-use Rattle.service.specs.Routes.{reader_of, segment}
-use Rattle.service.specs.declared.refusal.Refusal.{Refusal}
-use Rattle.service.specs.declared.refusal.Refusal.TheVariants as refusal
-use Rattle.service.specs.declared.routes.Action.{Action}
-use Rattle.service.specs.declared.routes.Action.TheVariants as action
 use Rattle.service.specs.declared.routes.DepositAction.{DepositAction}
+use Rattle.service.specs.{Forms.calibration_stated, Forms.hold_stated, Received.IsPartial, Routes.reader_of}
+use Rattle.service.specs.{Routes.segment, declared.refusal.Refusal.Refusal, declared.routes.Action.Action}
+use Rattle.service.specs.declared.refusal.Refusal.TheVariants as refusal
+use Rattle.service.specs.declared.routes.Action.TheVariants as action
 use Rattle.service.specs.declared.routes.DepositAction.TheVariants as deposit
 
 -- What is told out of the desk's store: to an account, an extract of the stamps with serial numbers from the first

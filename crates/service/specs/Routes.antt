@@ -1,22 +1,16 @@
 -- Which targets there are, and what the methods do there. What matches a route, `matchit` says.
 use Rattle.std.specs.Prelude.{ℕ, ◌==◌, List, [], ◌∷◌, ◌++◌, codes, fold, slice_get, Option, Some, None, option_map}
 use Rattle.std.specs.Prelude.{Result, Ok, Err, if◌then◌else◌, unwrap_or}
-use Rattle.std.specs.List.{slice_split}
-use Rattle.std.specs.Str.{bytes_eq}
+use Rattle.std.specs.{List.slice_split, Str.bytes_eq}
 use Rattle.std.proofs.Common.{Bor}
-use Rattle.matchit.specs.Order.{placed}
-use Rattle.matchit.specs.Route.{Scan, parse_route}
-use Rattle.matchit.specs.Router.{RouteOf, route_from}
-use Rattle.matchit.specs.Rows.{RowsOf}
-use Rattle.matchit.specs.Seek.{first}
-use Rattle.matchit.specs.declared.error.InsertError.{InsertError}
+use Rattle.matchit.specs.{Order.placed, Route.Scan, Route.parse_route, Router.RouteOf, Router.route_from, Rows.RowsOf}
+use Rattle.matchit.specs.{Seek.first, declared.error.InsertError.InsertError}
 use Rattle.book.specs.Readers.{Reader, Account, Group}
 use Rattle.desk.specs.declared.rights.Change.TheVariants.{Give, Take}
-use Rattle.service.specs.declared.routes.Methods.{Methods}
-use Rattle.service.specs.declared.routes.Action.{Action}
+use Rattle.service.specs.declared.routes.ReaderKind.{ReaderKind}
+use Rattle.service.specs.{declared.routes.Methods.Methods, declared.routes.Action.Action}
 use Rattle.service.specs.declared.routes.Action.TheVariants as action
 use Rattle.service.specs.declared.routes.DepositAction.TheVariants as deposit
-use Rattle.service.specs.declared.routes.ReaderKind.{ReaderKind}
 use Rattle.service.specs.declared.routes.ReaderKind.TheVariants as kind
 
 -- no method does anything

@@ -3,34 +3,24 @@ use Rattle.std.specs.Prelude.{◌≡◌, ◌⊎◌, ℕ, ◌<◌, ◌≤◌, ◌
 use Rattle.std.specs.Prelude.{Err}
 use Rattle.std.specs.Io.KnownBytes.{Appends, Consumes, IsAtEnd, Keeps}
 use Rattle.book.specs.declared.standing.Standing.{Ghosts}
-use Rattle.cms.specs.declared.signer.SignerFault.{SignerFault}
-use Rattle.tsp.specs.Rules.{IsFirstFailing}
-use Rattle.tsp.specs.declared.rule.Rule.{Rule}
-use Rattle.policy.specs.Record.{AccountValue}
 use Rattle.book.specs.History.{History, CalibrationValue, latest_calibration}
-use Rattle.book.specs.Sound.{IsBackwards}
-use Rattle.book.specs.Stands.{Stands, OnlyLooks}
-use Rattle.book.specs.Rights.{ListedValue}
+use Rattle.book.specs.{Sound.IsBackwards, Stands.Stands, Stands.OnlyLooks, Rights.ListedValue}
+use Rattle.cms.specs.declared.signer.SignerFault.{SignerFault}
+use Rattle.tsp.specs.{Rules.IsFirstFailing, declared.rule.Rule.Rule}
+use Rattle.policy.specs.Record.{AccountValue}
 use Rattle.desk.specs.Command.{Command, Stamp, Deposit, ListAll, Calibrate, Answer, Listed, Rejected, Refused}
-use Rattle.desk.specs.declared.fault.Fault.TheVariants as fault
-use Rattle.desk.specs.Findings.{HoldsUnasked}
-use Rattle.desk.specs.MachineRuns.{Told}
 use Rattle.desk.specs.CallContract.{DeskValue, IsStep, no_signer, with_signer}
-use Rattle.audit.specs.Auditor.{IsAllowed}
-use Rattle.audit.specs.Extract.{extract_text}
-use Rattle.audit.specs.Failures.{HasFailed}
-use Rattle.audit.specs.Fault.{count_after}
+use Rattle.desk.specs.{Findings.HoldsUnasked, MachineRuns.Told}
+use Rattle.desk.specs.declared.fault.Fault.TheVariants as fault
 use Rattle.audit.specs.declared.fault.ExtractFault.{ExtractFault}
+use Rattle.audit.specs.{Auditor.IsAllowed, Extract.extract_text, Failures.HasFailed, Fault.count_after}
 use Rattle.audit.specs.declared.fault.ExtractFault.TheVariants as extract
 use Rattle.service.specs.Answers.{AnswerValue, answer_text, answer_to, extract_answer, head_text, refusal_answer}
-use Rattle.service.specs.Answers.{success, unavailable}
-use Rattle.service.specs.Refusals.{status_of}
-use Rattle.service.specs.Reports.{Reports}
 use Rattle.service.specs.Requests.{Asked, Report, Step, Look, Extract, IsRequest, IsPart, IsEarly}
+use Rattle.service.specs.{Answers.success, Answers.unavailable, Refusals.status_of, Reports.Reports}
+use Rattle.service.specs.{declared.refusal.Refusal.Refusal, declared.served.Served.Served}
 use Rattle.service.specs.declared.answer.Media.TheVariants as media
-use Rattle.service.specs.declared.refusal.Refusal.{Refusal}
 use Rattle.service.specs.declared.refusal.Refusal.TheVariants as refusal
-use Rattle.service.specs.declared.served.Served.{Served}
 use Rattle.service.specs.declared.served.Served.TheVariants as served
 
 -- what a reader has left, the writer, the desk and the signer: before a call, and after it

@@ -3,9 +3,8 @@ use Rattle.std.specs.Prelude.{ℤ, List, take, Option, Result, Ok, ℕ}
 use Rattle.std.specs.Io.KnownBytes.{Consumes}
 use Rattle.policy.specs.Record.{PolicyValue}
 use Rattle.desk.specs.Batches.{Question, stamp_for}
-use Rattle.service.specs.Received.{ReceivedValue}
 use Rattle.service.specs.Requests.{Asked, IsRequest, Step}
-use Rattle.service.specs.declared.refusal.Refusal.{Refusal}
+use Rattle.service.specs.{Received.ReceivedValue, declared.refusal.Refusal.Refusal}
 
 -- From whatever reader these octets are read, what is read as the request is one, and asks for that stamp.
 abbrev pub AsksStamp : PolicyValue → ℤ → ReceivedValue → Question → Type 0

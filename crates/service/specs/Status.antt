@@ -4,9 +4,8 @@ use Rattle.std.specs.Prelude.{List, ◌++◌, codes, Option, Some, None, option_
 use Rattle.std.specs.Fmt.{decimal, signed_decimal}
 use Rattle.gentime.specs.GenTime.{text_of}
 use Rattle.policy.specs.Record.{CounterValue}
-use Rattle.decide.specs.Clock.{IsGood, step}
 use Rattle.decide.specs.declared.facts.Calibration.{Calibration}
-use Rattle.decide.specs.declared.facts.ClockFacts.{ClockFacts}
+use Rattle.decide.specs.{Clock.IsGood, Clock.step, declared.facts.ClockFacts.ClockFacts}
 use Rattle.desk.specs.declared.clock_facts.Looked.{Looked}
 use Rattle.service.specs.Answers.{line_feed}
 

@@ -3,35 +3,22 @@ use Rattle.std.specs.Prelude.{◌≡◌, ℕ, List, length, map, All, Option}
 use Rattle.std.specs.Prelude.{Result, Ok, Err}
 use Rattle.std.proofs.Common.{Bor}
 use Rattle.httparse.specs.Spans.{IsHeaderWithin, header_bytes}
-use Rattle.policy.specs.Record.{AccountValue}
 use Rattle.policy.specs.View.{account_view, policy_view}
-use Rattle.policy.specs.declared.entries.Account.{Account}
-use Rattle.policy.specs.declared.policy.Policy.{Policy}
+use Rattle.policy.specs.{Record.AccountValue, declared.entries.Account.Account, declared.policy.Policy.Policy}
 use Rattle.decide.specs.View.{account_asked}
-use Rattle.book.specs.declared.fault.StoreFault.{StoreFault}
+use Rattle.book.specs.{declared.fault.StoreFault.StoreFault, Values.calibration_view, Values.hold_view}
 use Rattle.book.specs.declared.fault.StoreFault.TheVariants as store
-use Rattle.service.specs.Answers.{AnswerValue, created, refusal_answer}
-use Rattle.book.specs.Values.{calibration_view, hold_view}
-use Rattle.desk.specs.Batches.{stamp_for}
-use Rattle.desk.specs.Command.{Deposit, ListAll, Calibrate, Hold}
-use Rattle.desk.specs.Together.{question_view}
-use Rattle.service.specs.Checks.{WantedValue}
-use Rattle.service.specs.Reports.{Seen}
 use Rattle.service.specs.Requests.{Asked, Step, Look, Extract, Status, OfAccount, asked_by, asked_of_deposit}
-use Rattle.service.specs.Routes.{segment}
-use Rattle.service.specs.Fields.{Stated, Never, Once, Twice}
-use Rattle.service.specs.Heads.{HeadValue}
-use Rattle.service.specs.Handlers.{RequestValue}
-use Rattle.service.specs.declared.checks.Found.{Found}
+use Rattle.service.specs.{Checks.WantedValue, Reports.Seen, Routes.segment, Fields.Stated, Fields.Never, Fields.Once}
+use Rattle.service.specs.{Fields.Twice, Heads.HeadValue, Handlers.RequestValue, declared.checks.Found.Found}
+use Rattle.service.specs.{declared.context.Context.Context, declared.fields.Occurrence.Occurrence}
+use Rattle.service.specs.{declared.head.Head.Head, declared.refusal.Refusal.Refusal, declared.routes.Action.Action}
+use Rattle.service.specs.{Answers.AnswerValue, Answers.created, Answers.refusal_answer, declared.wanted.Wanted.Wanted}
+use Rattle.desk.specs.Command.{Deposit, ListAll, Calibrate, Hold}
+use Rattle.desk.specs.{Batches.stamp_for, Together.question_view}
 use Rattle.service.specs.declared.checks.Found.TheVariants as found
-use Rattle.service.specs.declared.context.Context.{Context}
-use Rattle.service.specs.declared.fields.Occurrence.{Occurrence}
 use Rattle.service.specs.declared.fields.Occurrence.TheVariants as field
-use Rattle.service.specs.declared.head.Head.{Head}
-use Rattle.service.specs.declared.refusal.Refusal.{Refusal}
 use Rattle.service.specs.declared.refusal.Refusal.TheVariants as refusal
-use Rattle.service.specs.declared.routes.Action.{Action}
-use Rattle.service.specs.declared.wanted.Wanted.{Wanted}
 
 abbrev pub occurrence_view : Occurrence → Stated
 occurrence_view field.Never = Never

@@ -3,16 +3,12 @@ ghost use Rattle.std.specs.Prelude.{◌≡◌, ◌++◌, ℕ, codes, map, IfOk, 
 ghost use Rattle.std.specs.List.{flat_map};
 ghost use Rattle.policy.specs.Kinds.{is_among};
 ghost use Rattle.policy.specs.View.{account_view, algorithm_view, extension_view, tsa_policy_view, policy_view};
-ghost use Rattle.book.specs.History.{History};
-ghost use Rattle.book.specs.Stands.{Stands, OnlyLooks};
+ghost use Rattle.book.specs.{History.History, Stands.Stands, Stands.OnlyLooks};
 ghost use Rattle.desk.specs.Facts.{clock_of};
 ghost use Rattle.service.specs.Accounts.{identified, listed_line, algorithm_line, extension_line, policy_lines};
 ghost use Rattle.service.specs.Accounts.{named_policy_lines, quota_lines, right_lines, group_line, account_text};
-ghost use Rattle.service.specs.Accounts.{IsUsedAt};
 ghost use Rattle.service.specs.Handlers.{AnswersReport};
-ghost use Rattle.service.specs.Requests.{OfAccount};
-ghost use Rattle.service.specs.Served.{TellsFailure};
-ghost use Rattle.service.specs.Views.{seen_at};
+ghost use Rattle.service.specs.{Accounts.IsUsedAt, Requests.OfAccount, Served.TellsFailure, Views.seen_at};
 
 use crate::answer::Media;
 use crate::context::Context;

@@ -2,16 +2,13 @@
 ghost use Rattle.std.specs.Prelude.{◌≡◌, codes, false, true};
 ghost use Rattle.policy.specs.View.{policy_view};
 ghost use Rattle.decide.specs.View.{account_asked};
-ghost use Rattle.desk.specs.Batches.{stamp_for};
-ghost use Rattle.desk.specs.Together.{question_view};
+ghost use Rattle.desk.specs.{Batches.stamp_for, Together.question_view};
 ghost use Rattle.service.specs.Checks.{account_shown, active, active_account, number_stated, range_stated};
 ghost use Rattle.service.specs.Checks.{reference_stated, operator_shown, watcher_shown};
-ghost use Rattle.service.specs.Fields.{Twice, stated};
-ghost use Rattle.service.specs.Requests.{Step, asked_by};
 ghost use Rattle.service.specs.Views.{head_view, IsInPlace, octets_given, result_by, account_given, account_found};
-ghost use Rattle.service.specs.Views.{IsAskedBy};
 ghost use Rattle.service.specs.declared.routes.Action.TheVariants.{Stamp, Keep, List, Deposit, Extract, Calibrate};
 ghost use Rattle.service.specs.declared.routes.Action.TheVariants.{Hold as Holding, Status, Account as OfAccount};
+ghost use Rattle.service.specs.{Fields.Twice, Fields.stated, Requests.Step, Requests.asked_by, Views.IsAskedBy};
 
 use crate::answer::Occasion;
 use crate::context::Context;

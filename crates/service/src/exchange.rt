@@ -1,18 +1,13 @@
 //! A request and its answer.
 ghost use Rattle.std.specs.Prelude.{◌≡◌, ◌⊎◌, length, take, List, Option, ℕ, ℤ, true, IfSome, MatchBool, MatchOption};
 ghost use Rattle.std.specs.Io.KnownBytes.{Consumes, IsAtEnd};
-ghost use Rattle.policy.specs.Record.{PolicyValue};
-ghost use Rattle.policy.specs.View.{policy_view};
-ghost use Rattle.desk.specs.Answers.{reply_as};
+ghost use Rattle.policy.specs.{Record.PolicyValue, View.policy_view};
 ghost use Rattle.desk.specs.Batches.{Question, stamp_for};
-ghost use Rattle.desk.specs.MachineRuns.{Told};
-ghost use Rattle.desk.specs.Together.{question_view};
-ghost use Rattle.service.specs.Answers.{answer_to};
+ghost use Rattle.desk.specs.{Answers.reply_as, MachineRuns.Told, Together.question_view};
 ghost use Rattle.service.specs.Known.{IsDue, IsDueAtEnd, IsDueInPlace};
-ghost use Rattle.service.specs.Received.{ReceivedValue, IsAll};
 ghost use Rattle.service.specs.Served.{Sends, Serves, TellsCut, TellsFailure, TellsFailureByRows};
 ghost use Rattle.service.specs.Stamps.{AsksStamp, AsksWhere, ReadsWhere};
-ghost use Rattle.service.specs.Views.{IsInPlace};
+ghost use Rattle.service.specs.{Answers.answer_to, Received.ReceivedValue, Received.IsAll, Views.IsInPlace};
 
 use crate::answer::Occasion;
 use crate::checks::{shows_keys, stamp_asked};

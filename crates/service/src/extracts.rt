@@ -2,8 +2,7 @@
 ghost use Rattle.std.specs.Prelude.{◌≡◌, ◌⊎◌};
 ghost use Rattle.policy.specs.View.{account_view, policy_view};
 ghost use Rattle.audit.specs.Inquiries.{Allows};
-ghost use Rattle.book.specs.History.{History};
-ghost use Rattle.book.specs.Stands.{OnlyLooks, Stands};
+ghost use Rattle.book.specs.{History.History, Stands.OnlyLooks, Stands.Stands};
 ghost use Rattle.service.specs.auxiliary.ExtractAnswers.{SendingFails, SendsExtract, ServesExtract};
 ghost use Rattle.service.specs.Served.{TellsExtractFailure, TellsFailure};
 

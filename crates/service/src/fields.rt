@@ -3,9 +3,8 @@ ghost use Rattle.std.specs.Prelude.{◌≡◌, [], ◌∷◌, map, reverse, ◌=
 ghost use Rattle.std.specs.List.{before_first};
 ghost use Rattle.httparse.specs.Grammar.{trim_ows, is_ows, skip_ows};
 ghost use Rattle.httparse.specs.Spans.{IsHeaderWithin, header_bytes};
-ghost use Rattle.service.specs.Checks.{is_never, type_in};
 ghost use Rattle.service.specs.Fields.{same_letters, values, stated};
-ghost use Rattle.service.specs.Views.{occurrence_view};
+ghost use Rattle.service.specs.{Checks.is_never, Checks.type_in, Views.occurrence_view};
 
 use httparse::spans::HeaderSpan;
 

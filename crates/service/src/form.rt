@@ -1,11 +1,9 @@
 //! The forms of operators (URL Standard 5.1).
 ghost use Rattle.std.specs.Prelude.{◌≡◌, ◌≤◌, length, option_map, IfOk};
 ghost use Rattle.form_urlencoded.specs.Form.{raw_pairs};
-ghost use Rattle.book.specs.Sound.{greatest_number};
-ghost use Rattle.book.specs.Values.{calibration_view, hold_view};
+ghost use Rattle.book.specs.{Sound.greatest_number, Values.calibration_view, Values.hold_view};
 ghost use Rattle.service.specs.Forms.{field_of, field_stated, fields_counted, calibration_stated, hold_stated};
-ghost use Rattle.service.specs.Numbers.{micros_in, signed_in};
-ghost use Rattle.service.specs.Views.{result_by};
+ghost use Rattle.service.specs.{Numbers.micros_in, Numbers.signed_in, Views.result_by};
 
 use crate::numbers::{micros_in, signed_in};
 use crate::refusal::Refusal;

@@ -1,10 +1,8 @@
 //! A whole request: its checks are made, the desk takes the step that it asks for, or its store is looked at, and the
 //! answer is written.
 ghost use Rattle.std.specs.Prelude.{◌≡◌, ◌⊎◌, Ok};
-ghost use Rattle.service.specs.Handlers.{Handles};
-ghost use Rattle.service.specs.Requests.{asked_by};
-ghost use Rattle.service.specs.Served.{TellsFailure, TellsFailureByRows};
 ghost use Rattle.service.specs.Views.{asked_view, head_view, request_view, IsInPlace};
+ghost use Rattle.service.specs.{Handlers.Handles, Requests.asked_by, Served.TellsFailure, Served.TellsFailureByRows};
 
 mod deposit;
 mod deposits;

@@ -1,9 +1,7 @@
 //! A head in the octets that were read.
 ghost use Rattle.std.specs.Prelude.{◌≡◌, IsUtf8};
-ghost use Rattle.httparse.specs.Grammar.{RequestHead};
-ghost use Rattle.httparse.specs.Spans.{IsRequestAt, IsRequestWithin};
-ghost use Rattle.service.specs.Heads.{head_value};
-ghost use Rattle.service.specs.Views.{head_view, IsInPlace};
+ghost use Rattle.httparse.specs.{Grammar.RequestHead, Spans.IsRequestAt, Spans.IsRequestWithin};
+ghost use Rattle.service.specs.{Heads.head_value, Views.head_view, Views.IsInPlace};
 
 use httparse::spans::{HeaderSpan, RequestSpans};
 use std::str;

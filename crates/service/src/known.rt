@@ -1,11 +1,9 @@
 //! What the octets that came of a request are known to be, whatever others follow.
 ghost use Rattle.std.specs.Prelude.{◌≡◌, ℕ, ◌+◌, ◌<◌, ◌≤◌, List, length, take, true};
-ghost use Rattle.httparse.specs.Spans.{RequestOverflows};
-ghost use Rattle.httparse.specs.declared.spans.HeaderSpan.{HeaderSpan};
-ghost use Rattle.service.specs.Heads.{most_octets, most_fields, IsBegun, IsHeadless};
+ghost use Rattle.httparse.specs.{Spans.RequestOverflows, declared.spans.HeaderSpan.HeaderSpan};
 ghost use Rattle.service.specs.Known.{BeginsAt, IsKnown, IsBehind, IsShort, HasRoom, headless, is_wanting};
-ghost use Rattle.service.specs.Received.{most, has_no_body, ends_with_body};
-ghost use Rattle.service.specs.Views.{IsInPlace, head_view};
+ghost use Rattle.service.specs.{Heads.most_octets, Heads.most_fields, Heads.IsBegun, Heads.IsHeadless, Received.most};
+ghost use Rattle.service.specs.{Received.has_no_body, Received.ends_with_body, Views.IsInPlace, Views.head_view};
 
 use crate::fields::stated;
 use crate::head::{Head, head_in};

@@ -2,9 +2,7 @@
 ghost use Rattle.std.specs.Prelude.{ℕ, ℤ, Option};
 ghost use Rattle.policy.specs.Record.{AccountValue, PolicyValue};
 ghost use Rattle.book.specs.History.{History};
-ghost use Rattle.desk.specs.Agreement.{Agree};
-ghost use Rattle.desk.specs.Facts.{clock_of};
-ghost use Rattle.desk.specs.Viewers.{viewer_in};
+ghost use Rattle.desk.specs.{Agreement.Agree, Facts.clock_of, Viewers.viewer_in};
 ghost use Rattle.service.specs.Accounts.{IsUsedAt};
 
 /// Of two histories that agree for an account it is told the same: besides the policy file its own stamps and the clock

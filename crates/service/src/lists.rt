@@ -1,7 +1,6 @@
 //! Deposits as text.
 ghost use Rattle.std.specs.Prelude.{◌≡◌, [], ◌++◌, map, MatchOption, OnSome, IfOk, string_bytes, codes};
-ghost use Rattle.std.specs.Fmt.{decimal};
-ghost use Rattle.std.specs.List.{flat_map};
+ghost use Rattle.std.specs.{Fmt.decimal, List.flat_map};
 ghost use Rattle.book.specs.Values.{listed_view};
 ghost use Rattle.service.specs.Answers.{listed_line, line_feed};
 

@@ -1,8 +1,6 @@
 //! Numbers and references, as a request spells them.
 ghost use Rattle.std.specs.Prelude.{◌≡◌, ◌≤◌, length, IsTrue, Option, IfSome};
-ghost use Rattle.std.specs.Char.{is_ascii_digit};
-ghost use Rattle.std.specs.List.{list_all};
-ghost use Rattle.std.specs.Str.Parse.{digits_value};
+ghost use Rattle.std.specs.{Char.is_ascii_digit, List.list_all, Str.Parse.digits_value};
 ghost use Rattle.book.specs.Sound.{greatest_number};
 ghost use Rattle.service.specs.Numbers.{is_digits, length_in, number_in, micros_in, signed_in};
 ghost use Rattle.service.specs.Numbers.{is_reference, is_reference_octet};

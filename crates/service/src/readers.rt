@@ -2,16 +2,10 @@
 ghost use Rattle.std.specs.Prelude.{◌≡◌, ◌++◌, ℕ, true, map, IfSome, OnSome, string_bytes};
 ghost use Rattle.std.specs.List.{flat_map};
 ghost use Rattle.policy.specs.View.{account_view, policy_view};
-ghost use Rattle.book.specs.Entries.{reader_view};
-ghost use Rattle.book.specs.History.{History};
 ghost use Rattle.book.specs.Readers.{Account as Named, Group as NamedGroup};
-ghost use Rattle.book.specs.Rights.{is_own};
-ghost use Rattle.book.specs.Stands.{Stands, OnlyLooks};
+ghost use Rattle.book.specs.{Entries.reader_view, History.History, Rights.is_own, Stands.Stands, Stands.OnlyLooks};
 ghost use Rattle.service.specs.Readers.{has_right, reader_named, reader_line, readers_text};
-ghost use Rattle.service.specs.Handlers.{AnswersReport};
-ghost use Rattle.service.specs.Requests.{OfReaders};
-ghost use Rattle.service.specs.Served.{TellsFailure};
-ghost use Rattle.service.specs.Views.{seen_at};
+ghost use Rattle.service.specs.{Handlers.AnswersReport, Requests.OfReaders, Served.TellsFailure, Views.seen_at};
 
 use crate::answer::Media;
 use crate::context::Context;

@@ -2,9 +2,8 @@
 ghost use Rattle.std.specs.Prelude.{◌≡◌, ◌≤◌, length, option_map};
 ghost use Rattle.http.specs.StatusCode.{reason_phrase};
 ghost use Rattle.tsp.specs.Rejection.{number_of, reason};
-ghost use Rattle.service.specs.Answers.{allowed_by, phrase_of, refusal_body};
-ghost use Rattle.service.specs.Routes.{names_of};
 ghost use Rattle.service.specs.Refusals.{status_of_rule, status_of, word_of, refusal_of, refusal_of_extract};
+ghost use Rattle.service.specs.{Answers.allowed_by, Answers.phrase_of, Answers.refusal_body, Routes.names_of};
 
 use crate::answer::{ShortText, push_number};
 use crate::routes::Methods;

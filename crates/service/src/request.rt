@@ -31,8 +31,7 @@ pub struct Request {
 }
 
 impl Model for Request {
-    ghost use Rattle.service.specs.Received.{ReceivedValue};
-    ghost use Rattle.service.specs.Known.{IsKept, received};
+    ghost use Rattle.service.specs.{Received.ReceivedValue, Known.IsKept, Known.received};
 
     ghost Value = { ReceivedValue };
 

@@ -1,14 +1,11 @@
 //! Answers that are written.
 ghost use Rattle.std.specs.Prelude.{◌≡◌, ◌≤◌, ◌++◌, length, option_map};
 ghost use Rattle.http.specs.StatusCode.{reason_phrase};
-ghost use Rattle.desk.specs.Answers.{answered, reply_as};
-ghost use Rattle.desk.specs.Command.{Command};
 ghost use Rattle.desk.specs.Shown.{deposited_as, done_as, shown_as};
+ghost use Rattle.desk.specs.{Answers.answered, Answers.reply_as, Command.Command};
 ghost use Rattle.service.specs.Answers.{answer_to, created, media_shown, phrase_of, refusal_answer, success};
-ghost use Rattle.service.specs.Answers.{unavailable};
-ghost use Rattle.service.specs.Routes.{names_of};
 ghost use Rattle.service.specs.Served.{SendsText, Sends, TellsFailure};
-ghost use Rattle.service.specs.Views.{added_answer};
+ghost use Rattle.service.specs.{Answers.unavailable, Routes.names_of, Views.added_answer};
 
 use crate::answer::{Heading, Media, Occasion, head_text};
 use crate::lists::number_line;

@@ -1,6 +1,5 @@
 //! Targets, and what methods do there.
-ghost use Rattle.std.specs.Prelude.{◌≡◌, map, Option, IfOk, OnOk};
-ghost use Rattle.std.specs.Str.{bytes_eq};
+ghost use Rattle.std.specs.{Prelude.◌≡◌, Prelude.map, Prelude.Option, Prelude.IfOk, Prelude.OnOk, Str.bytes_eq};
 ghost use Rattle.book.specs.Entries.{reader_view};
 ghost use Rattle.service.specs.Routes.{line_view, table, with_route, routes, methods_at, action_of, reader_of, segment};
 

@@ -1,17 +1,13 @@
 //! The counter's state, for an operator or an auditor.
 ghost use Rattle.std.specs.Prelude.{◌≡◌, ◌++◌, ◌≤◌, ℕ, pos, codes, IfOk, IfSome, MatchOption, OnSome, option_map};
-ghost use Rattle.std.specs.Prelude.{string_bytes};
-ghost use Rattle.std.specs.Fmt.{decimal, signed_decimal};
+ghost use Rattle.std.specs.{Prelude.string_bytes, Fmt.decimal, Fmt.signed_decimal};
 ghost use Rattle.gentime.specs.GenTime.{text_of};
 ghost use Rattle.policy.specs.View.{counter_view};
 ghost use Rattle.book.specs.Stands.{OnlyLooks};
 ghost use Rattle.service.specs.Status.{drifting, greatest_age, age, age_left, or_none, yes_or_no, named};
 ghost use Rattle.service.specs.Status.{calibration_lines, giving_lines, clock_lines, fault_lines, size_line, Gives};
-ghost use Rattle.service.specs.Status.{IsStatusText};
 ghost use Rattle.service.specs.Handlers.{AnswersReport};
-ghost use Rattle.service.specs.Requests.{Status};
-ghost use Rattle.service.specs.Served.{TellsFailure};
-ghost use Rattle.service.specs.Views.{seen_at};
+ghost use Rattle.service.specs.{Status.IsStatusText, Requests.Status, Served.TellsFailure, Views.seen_at};
 
 use crate::answer::Media;
 use crate::context::Context;

@@ -1,16 +1,15 @@
 -- Texts that are handed over and asked for one after the other, by sessions that are renewed.
 use Rattle.std.proofs.Common.{◌≡◌, ℕ, ◌+◌, ◌==◌, ◌<◌, true, false, List, [], ◌∷◌, ◌++◌, length, Option, Some}
 use Rattle.std.proofs.Common.{None, Result, Ok, Err, refl, sym, ap, ◌∙◌, subst, inl, inr, arith, append_assoc, map}
-use Rattle.std.proofs.lemmas.Bool.Decides.{nat_tests}
-use Rattle.std.proofs.lemmas.List.{append-nil, length-map}
-use Rattle.cms.specs.Ahead.{FailsFirst, ReceivesAhead}
-use Rattle.cms.specs.declared.signer.SignerFault.{SignerFault}
+use Rattle.std.proofs.{lemmas.Bool.Decides.nat_tests, lemmas.List.append-nil, lemmas.List.length-map}
 use Rattle.cms.specs.declared.signer.SignerFault.TheVariants.{Failed}
+use Rattle.cms.specs.{Ahead.FailsFirst, Ahead.ReceivesAhead, declared.signer.SignerFault.SignerFault}
 use Rattle.cms.proofs.SignedEach.{signs_then}
-use Rattle.sessions.specs.ReconnectingSigner.{ReconnectingState, AsksSession, IsTaken, SignsRenewed, SendsRenewed, Stands}
 use Rattle.sessions.specs.ReconnectingSigner.{AwaitsRenewed, asks, refused, abandoned, nothing, hands, told, lost, both}
-use Rattle.sessions.specs.ReconnectingSigner.{still, taken, sent, gone}
-use Rattle.sessions.specs.auxiliary.RenewedLaws.{all_signed}
+use Rattle.sessions.specs.{ReconnectingSigner.ReconnectingState, ReconnectingSigner.AsksSession}
+use Rattle.sessions.specs.{ReconnectingSigner.IsTaken, ReconnectingSigner.SignsRenewed, ReconnectingSigner.SendsRenewed}
+use Rattle.sessions.specs.{ReconnectingSigner.Stands, ReconnectingSigner.still, ReconnectingSigner.taken}
+use Rattle.sessions.specs.{ReconnectingSigner.sent, ReconnectingSigner.gone, auxiliary.RenewedLaws.all_signed}
 
 -- a session that was taken and put back is asked as if it had just been taken
 pub asked_once : {S O : Type 0} (signs : S → List ℕ → Result (List ℕ) SignerFault → S → Type 0) (fresh : S → Type 0)

@@ -1,11 +1,8 @@
 -- A signer whose session is opened anew where it was lost.
 use Rattle.std.specs.Prelude.{◌≡◌, ◌⊎◌, ℕ, ◌<◌, ◌≤◌, List, [], ◌++◌, length, Option, Some, None, Result, Ok, Err}
 use Rattle.std.specs.Prelude.{Bool, true, false, IfSome}
-use Rattle.cms.specs.Ahead.{FailsFirst}
-use Rattle.cms.specs.Framed.{FramedState}
-use Rattle.cms.specs.Signer.{SignsEach}
-use Rattle.cms.specs.declared.signer.SignerFault.{SignerFault}
 use Rattle.cms.specs.declared.signer.SignerFault.TheVariants.{Failed, Memory}
+use Rattle.cms.specs.{Ahead.FailsFirst, Framed.FramedState, Signer.SignsEach, declared.signer.SignerFault.SignerFault}
 
 -- What opens sessions; the session, if one is open; how many answers of it are to come; and whether the texts that are
 -- outstanding fail. Faults are counted modulo 2 ^ 64.

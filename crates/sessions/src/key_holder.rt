@@ -2,8 +2,7 @@
 ghost use Rattle.std.specs.Prelude.{◌≡◌, ◌≤◌, false, IfSome, IfOk, OnOk, OnErr};
 ghost use Rattle.std.specs.Io.KnownBytes.{Appends};
 ghost use Rattle.cms.specs.Framed.{SendsBeginning};
-ghost use Rattle.sessions.specs.Notices.{contents_in, Tells};
-ghost use Rattle.sessions.specs.ReconnectingSigner.{IsOpened};
+ghost use Rattle.sessions.specs.{Notices.contents_in, Notices.Tells, ReconnectingSigner.IsOpened};
 
 use crate::reconnecting_signer::{ReconnectingSigner, Sessions};
 use crate::signer::{Session, SignerUnreached, connect_signer};

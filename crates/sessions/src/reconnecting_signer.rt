@@ -70,8 +70,7 @@ impl<S, O> Model for ReconnectingSigner<S, O> {
 impl<S: Pipeline + Drop, O: Sessions<S>> ReconnectingSigner<S, O> {
     ghost use Rattle.std.specs.Prelude.{◌≤◌, Some, None, IfNone, IfOk, true, false, vec_len};
     ghost use Rattle.std.specs.Hash.DefaultHasher.{wrapping_add};
-    ghost use Rattle.cms.specs.Signer.{signed_by, count_after};
-    ghost use Rattle.cms.specs.declared.signer.SignerFault.TheVariants.{Failed};
+    ghost use Rattle.cms.specs.{Signer.signed_by, Signer.count_after, declared.signer.SignerFault.TheVariants.Failed};
     ghost use Rattle.sessions.specs.ReconnectingSigner.{IsTaken, SignsRenewed, SendsRenewed};
 
     /// A signer of that algorithm with an open session, and what opens others. It keeps the allocator for room. Takes

@@ -9,16 +9,12 @@ use Rattle.store.proofs.Words.{is_stamp, le-max_left, le-max_right, list_any, li
 use Rattle.store.proofs.Words.{option_map, range_with_len, readers_as, refl, reservations, reverse, seen_by, stamp_at}
 use Rattle.store.proofs.Words.{stamp_of, stamps, subst₂, sym, token_of, ℕ, ◌<◌, ◌∙◌, ◌∷◌, ◌≡◌, ◌≤◌}
 use Rattle.store.proofs.DepositRows.{deposits_are, find_stamp, single_number, single_reference}
-use Rattle.store.proofs.FallingSerials.{stamps_fall}
-use Rattle.store.proofs.Installed.{identities_are, rows_fall}
 use Rattle.store.proofs.Members.{IsFalling, IsSingle, all_of, fails_each, find_none, find_single, found_member}
 use Rattle.store.proofs.Members.{member_after, member_cases, member_here, no_member, none_pass, some_pass}
 use Rattle.store.proofs.Numbered.{calibrations_are, holds_are, numbers_fall, unnumbered}
 use Rattle.store.proofs.Readers.{group_readers_are, readers_are}
-use Rattle.store.proofs.Stamps.{stamps_are}
-use Rattle.store.specs.Alike.{AreAlike, HaveSameRows}
-use Rattle.store.specs.TablesOf.{numbered}
-use Rattle.store.specs.auxiliary.Replay.{replayed}
+use Rattle.store.proofs.{FallingSerials.stamps_fall, Installed.identities_are, Installed.rows_fall, Stamps.stamps_are}
+use Rattle.store.specs.{Alike.AreAlike, Alike.HaveSameRows, TablesOf.numbered, auxiliary.Replay.replayed}
 
 -- the members of each are those of the other
 abbrev Within : {X : Type 0} → List X → List X → Type 0

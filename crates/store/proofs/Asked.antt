@@ -1,8 +1,7 @@
 -- Whether an account reads a deposit, asked of its own name and of each of its groups in turn.
 use Rattle.store.proofs.Words.{Account, BaseValue, Bool, Ghosts, Group, History, IsHonest, IsOpen, List, OnlyLooks}
 use Rattle.store.proofs.Words.{Stands, Viewer, false, is_reader, list_any, map, may_read, refl, sym, true, ℕ, ◌∙◌, ◌∷◌}
-use Rattle.store.proofs.Words.{◌≡◌}
-use Rattle.store.proofs.Walk.{looks_after}
+use Rattle.store.proofs.{Words.◌≡◌, Walk.looks_after}
 use Rattle.store.specs.Stands.{over_tables}
 
 abbrev any_of : ℕ → List (List ℕ) → History → Bool

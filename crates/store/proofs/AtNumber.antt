@@ -1,7 +1,6 @@
 -- Rows that are numbered in the order of their entries, each found by its number.
 use Rattle.std.proofs.lemmas.Option.{slice_get-map}
-use Rattle.book.specs.declared.rows.IdentityRow.{IdentityRow}
-use Rattle.book.specs.declared.values.Hold.{Hold}
+use Rattle.book.specs.{declared.rows.IdentityRow.IdentityRow, declared.values.Hold.Hold}
 use Rattle.store.proofs.Words.{CalibrationRow, CalibrationValue, Contains, History, HoldRow, HoldValue, Installed}
 use Rattle.store.proofs.Words.{InstalledRow, IsFoundAs, IsSound, List, None, NumberedCalibration, Option}
 use Rattle.store.proofs.Words.{ShowsCalibration, ShowsHold, ShowsIdentity, Some, [], ap, arith, calibration_row}
@@ -12,9 +11,7 @@ use Rattle.store.proofs.Words.{suc, sym, zero, ℕ, ◌++◌, ◌+◌, ◌==◌,
 use Rattle.store.proofs.Installed.{identities_are, length_rows}
 use Rattle.store.proofs.Members.{member_after, member_cases, member_here, no_member}
 use Rattle.store.proofs.Numbered.{calibrations_are, holds_are, unnumbered}
-use Rattle.store.specs.TablesOf.{numbered}
-use Rattle.store.specs.auxiliary.Replay.{replayed}
-use Rattle.store.specs.auxiliary.Steps.{calibration_from}
+use Rattle.store.specs.{TablesOf.numbered, auxiliary.Replay.replayed, auxiliary.Steps.calibration_from}
 
 -- what a row says besides its number
 abbrev calibration_in : CalibrationRow → CalibrationValue

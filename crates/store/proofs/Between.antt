@@ -6,11 +6,9 @@ use Rattle.store.proofs.Words.{cases_Bool, false, filter, greatest_number, inl, 
 use Rattle.store.proofs.Words.{min, min-le_left, min-le_right, nat_le, refl, reservations, reverse, reverse-append}
 use Rattle.store.proofs.Words.{stamp_of, stamp_view, stamps, stamps_between, subst, sym, token_of, true, ℕ, ◌&&◌, ◌++◌}
 use Rattle.store.proofs.Words.{◌+◌, ◌<◌, ◌^◌, ◌∙◌, ◌∷◌, ◌≡◌, ◌≤◌}
-use Rattle.store.proofs.FallingSerials.{stamps_fall}
 use Rattle.store.proofs.Members.{IsFalling, all_of, member_after, member_cases, member_here, no_member}
-use Rattle.store.proofs.Stamps.{stamps_are}
-use Rattle.store.specs.auxiliary.Replay.{replayed}
-use Rattle.store.specs.auxiliary.Steps.{only_within}
+use Rattle.store.proofs.{FallingSerials.stamps_fall, Stamps.stamps_are}
+use Rattle.store.specs.{auxiliary.Replay.replayed, auxiliary.Steps.only_within}
 
 filter_keeps : {X : Type 0} (p : X → Bool) (x : X) (xs : List X) → p x ≡ true → filter p (x ∷ xs) ≡ x ∷ filter p xs
 filter_keeps p x xs e = rw e refl

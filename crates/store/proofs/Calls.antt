@@ -3,11 +3,8 @@ use Rattle.store.proofs.Words.{Appends, BaseValue, Entry, Err, FitInTurn, Ghosts
 use Rattle.store.proofs.Words.{IsHonest, IsOpen, IsSound, IsStored, Keeps, LeavesOrAddsAll, List, LooksUp, Ok}
 use Rattle.store.proofs.Words.{OnlyLooks, OnlyReads, Recovers, Result, Stands, StoreFault, TableFault, Tables, Trees}
 use Rattle.store.proofs.Words.{[], ap, applied_all, count_after, inl, inr, refl, sound_all, subst, sym, with_all, ◌∙◌}
-use Rattle.store.proofs.Words.{◌∷◌, ◌≡◌, ◌⊎◌}
-use Rattle.store.proofs.Replayed.{replayed_is}
-use Rattle.store.specs.Stands.{over_tables}
-use Rattle.store.specs.TablesOf.{tables_of}
-use Rattle.store.specs.auxiliary.Replay.{replayed}
+use Rattle.store.proofs.{Words.◌∷◌, Words.◌≡◌, Words.◌⊎◌, Replayed.replayed_is}
+use Rattle.store.specs.{Stands.over_tables, TablesOf.tables_of, auxiliary.Replay.replayed}
 
 -- a store that keeps the tables of a sound history
 pub stands_for : {S : Type 0} (g : Ghosts S) (b : History) (store : BaseValue S) → IsSound b

@@ -1,15 +1,12 @@
 -- What a closed store leaves in its files.
 use Rattle.sqlite_catalog.specs.Listing.{IsSound}
-use Rattle.sqlite.specs.Closing.{HoldsAlone, IsCopied}
-use Rattle.sqlite.specs.Held.{Held}
+use Rattle.sqlite.specs.{Closing.HoldsAlone, Closing.IsCopied, Held.Held}
 use Rattle.sqlite_disk.specs.declared.Disk.{Ghosts}
 use Rattle.sqlite_store.specs.declared.store.FileStore.{FileStore}
 use Rattle.sqlite_wal.specs.Reads.{AreClean}
 use Rattle.store.proofs.Words.{BaseValue, Database, Err, Files, History, IfOk, Image, IsStored, Ok, Result, StoreFault}
 use Rattle.store.proofs.Words.{Trees, file_state, over_files, subst, ◌≡◌}
-use Rattle.store.specs.Files.{HasClosed, KeepsAlone, LeavesFiles}
-use Rattle.store.specs.Stands.{Stands}
-use Rattle.store.specs.TablesOf.{tables_of}
+use Rattle.store.specs.{Files.HasClosed, Files.KeepsAlone, Files.LeavesFiles, Stands.Stands, TablesOf.tables_of}
 
 alone : (b : History) {db : Trees} {image : Image} → IsStored (tables_of b) db → HoldsAlone image db
     → KeepsAlone b image

@@ -1,11 +1,9 @@
 -- What the making of the tables leaves.
 use Rattle.store.proofs.Words.{BaseValue, Entry, Err, Error, FitInTurn, Ghosts, IfOk, IsStored, Keeps, List, Ok, Result}
 use Rattle.store.proofs.Words.{State, StoreFault, [], applied_all, inl, inr, no_rows, sound_all, subst, with_all, ◌≡◌}
-use Rattle.tables.specs.Versions.{Creates}
 use Rattle.store.proofs.Calls.{tables_step}
-use Rattle.store.specs.Files.{LeavesAsItWas, LeavesOrMakes}
-use Rattle.store.specs.Stands.{Stands}
-use Rattle.store.specs.TablesOf.{tables_of}
+use Rattle.tables.specs.Versions.{Creates}
+use Rattle.store.specs.{Files.LeavesAsItWas, Files.LeavesOrMakes, Stands.Stands, TablesOf.tables_of}
 
 -- entries that fit in turn make the tables of their history
 tables_made : (entries : List Entry) → FitInTurn entries [] → applied_all entries no_rows

@@ -5,8 +5,7 @@ use Rattle.store.proofs.Words.{deposit_at, deposit_view, deposit_with_stamp, is_
 use Rattle.store.proofs.Words.{refl, stamp_at, stamp_view, string_bytes, subst, sym, ℕ, ◌∙◌, ◌≡◌}
 use Rattle.store.proofs.DepositRows.{deposit_view_of, labelled_listing, origin_view_of, stamp_view_of}
 use Rattle.store.proofs.DepositRows.{unlabelled_listing, unreserved_listing}
-use Rattle.store.specs.auxiliary.Replay.{replayed}
-use Rattle.store.specs.auxiliary.Steps.{IsOriginOf, listing_at}
+use Rattle.store.specs.{auxiliary.Replay.replayed, auxiliary.Steps.IsOriginOf, auxiliary.Steps.listing_at}
 
 -- ---- a deposit with its stamp
 

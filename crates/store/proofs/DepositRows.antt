@@ -9,12 +9,10 @@ use Rattle.store.proofs.Words.{is_own, is_owned, is_reader, is_same, is_some, is
 use Rattle.store.proofs.Words.{may_read, option_and_then, option_map, readers_as, refl, reservation_at, reservations}
 use Rattle.store.proofs.Words.{shown_to, stamp_at, stamp_of, stamp_view, stamps, string_bytes, subst, sym, token_of}
 use Rattle.store.proofs.Words.{true, ℕ, ◌&&◌, ◌<◌, ◌==◌, ◌||◌, ◌∙◌, ◌∷◌, ◌≡◌, ◌≤◌}
-use Rattle.store.proofs.FallingSerials.{stamps_fall}
 use Rattle.store.proofs.Members.{IsSearchedAs, IsSingle, falling_single, find_none, find_single, found_is_searched}
 use Rattle.store.proofs.Members.{found_member, member_cases, no_member, none_pass, some_pass}
-use Rattle.store.proofs.Stamps.{absent_above, stamps_are, unreserved}
-use Rattle.store.specs.auxiliary.Replay.{replayed}
-use Rattle.store.specs.auxiliary.Steps.{IsOriginOf, listing_at}
+use Rattle.store.proofs.{FallingSerials.stamps_fall, Stamps.absent_above, Stamps.stamps_are, Stamps.unreserved}
+use Rattle.store.specs.{auxiliary.Replay.replayed, auxiliary.Steps.IsOriginOf, auxiliary.Steps.listing_at}
 
 pub deposits_are : (b : History) → (replayed b).deposits ≡ deposits b
 deposits_are [] = refl

@@ -5,10 +5,8 @@ use Rattle.store.proofs.Words.{is_tally_of, list_any, map, raised_row, refl, sub
 use Rattle.store.proofs.Words.{◌<◌, ◌↔◌, ◌∙◌, ◌∷◌, ◌≡◌}
 use Rattle.store.proofs.Members.{member_after, member_cases, member_here, no_member, some_pass}
 use Rattle.store.proofs.Readers.{group_readers_are, key_passes, readers_are, row_is}
-use Rattle.store.proofs.Replayed.{replayed_is}
-use Rattle.store.proofs.Tallies.{tallies_count}
-use Rattle.store.specs.TablesOf.{tables_of}
-use Rattle.store.specs.auxiliary.Replay.{replayed}
+use Rattle.store.proofs.{Replayed.replayed_is, Tallies.tallies_count}
+use Rattle.store.specs.{TablesOf.tables_of, auxiliary.Replay.replayed}
 use Rattle.store.proofs.Tallies as tally
 
 passing : {X : Type 0} (p : X → Bool) (xs : List X) → list_any p xs ≡ true

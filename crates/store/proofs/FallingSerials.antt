@@ -3,12 +3,10 @@ use Rattle.book.specs.Rows.{StampRow}
 use Rattle.store.proofs.Words.{AllByRecursion, History, IsGreatestAs, IsSound, List, None, Option, ReservationValue}
 use Rattle.store.proofs.Words.{Reserved, ShowsLast, Some, [], ap, arith, first_of, greatest_of, last_of, le-max_left}
 use Rattle.store.proofs.Words.{le-max_right, map, max, option_map, refl, reservations, stamp_of, stamps, subst}
-use Rattle.store.proofs.Words.{token_of, ℕ, ◌<◌, ◌∷◌, ◌≡◌, ◌≤◌}
-use Rattle.tables.specs.declared.rows.LastStamp.{LastStamp}
 use Rattle.store.proofs.Members.{IsFalling, IsFirstAs, falling_map, greatest_is_first}
-use Rattle.store.proofs.Stamps.{stamps_are}
-use Rattle.store.specs.auxiliary.Replay.{replayed}
-use Rattle.store.specs.auxiliary.Steps.{last_from}
+use Rattle.store.proofs.{Words.token_of, Words.ℕ, Words.◌<◌, Words.◌∷◌, Words.◌≡◌, Words.◌≤◌, Stamps.stamps_are}
+use Rattle.tables.specs.declared.rows.LastStamp.{LastStamp}
+use Rattle.store.specs.{auxiliary.Replay.replayed, auxiliary.Steps.last_from}
 
 -- none has a serial number above the greatest
 pub none_above : (rs : List ReservationValue) (n : ℕ) → greatest_of rs < n → AllByRecursion (λ r. r.serial < n) rs

@@ -1,8 +1,7 @@
 -- What a history has of a kind, such as its identities, is gathered one after the other.
 use Rattle.store.proofs.Words.{BaseValue, Ghosts, History, IsHonest, IsOpen, List, None, OnlyLooks, Some, Stands, []}
 use Rattle.store.proofs.Words.{ap, length, refl, slice_get, subst, suc, sym, take, zero, ℕ, ◌++◌, ◌∙◌, ◌∷◌, ◌≡◌}
-use Rattle.store.proofs.AtNumber.{get_none}
-use Rattle.store.proofs.Walk.{looks_after}
+use Rattle.store.proofs.{AtNumber.get_none, Walk.looks_after}
 use Rattle.store.specs.Stands.{over_tables}
 
 take_next : {X : Type 0} (xs : List X) (k : ℕ) (x : X) → slice_get xs k ≡ Some x

@@ -3,9 +3,7 @@ use Rattle.store.proofs.Words.{AllByRecursion, History, Installed, InstalledRow,
 use Rattle.store.proofs.Words.{ReservationValue, StampRow, [], ap, arith, greatest_by, greatest_of, greatest_serial}
 use Rattle.store.proofs.Words.{installations, installed_rows, length, map, max, refl, reservations, stamp_of, suc}
 use Rattle.store.proofs.Words.{token_of, ℕ, ◌+◌, ◌<◌, ◌∙◌, ◌∷◌, ◌≡◌}
-use Rattle.store.proofs.Members.{IsFalling}
-use Rattle.store.proofs.Numbered.{max_more}
-use Rattle.store.proofs.Stamps.{stamps_are}
+use Rattle.store.proofs.{Members.IsFalling, Numbered.max_more, Stamps.stamps_are}
 use Rattle.store.specs.auxiliary.Replay.{replayed}
 
 pub length_rows : (b : History) → length (installed_rows b) ≡ length (installations b)

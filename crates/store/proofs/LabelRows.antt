@@ -9,9 +9,8 @@ use Rattle.store.proofs.Words.{ltb-false, ltb-true, map, nat_lt, refl, string_by
 use Rattle.store.proofs.Words.{zero, ℕ, ◌++◌, ◌<◌, ◌==◌, ◌∙◌, ◌∷◌, ◌≡◌, ◌≤◌}
 use Rattle.store.proofs.CursorMoves.{any_default}
 use Rattle.store.proofs.Members.{member_after, member_cases, member_here, no_member}
-use Rattle.store.specs.auxiliary.Replay.{replayed}
 use Rattle.store.specs.auxiliary.Steps.{AreLabels, AreOwned}
-use Rattle.store.specs.declared.labels.Owned.{Owned}
+use Rattle.store.specs.{auxiliary.Replay.replayed, declared.labels.Owned.Owned}
 
 map_member : {X Y : Type 0} (f : X → Y) (xs : List X) (y : X) → Contains xs y → Contains (map f xs) (f y)
 map_member f [] y m = absurd (no_member y m)

@@ -8,10 +8,8 @@ use Rattle.store.proofs.Words.{is_visible, le-leb, length, list_any, listed, lis
 use Rattle.store.proofs.Words.{ltb-true, map, may_read, min, name_of, nat_lt, option_and_then, option_map}
 use Rattle.store.proofs.Words.{option_to_list, range_with_len, refl, reservation_at, rights_of, seen_by, shown_to}
 use Rattle.store.proofs.Words.{subst, suc, sym, true, zero, ℕ, ◌&&◌, ◌++◌, ◌+◌, ◌-◌, ◌<◌, ◌==◌, ◌||◌, ◌∙◌, ◌∷◌, ◌≡◌}
-use Rattle.store.proofs.Words.{◌≤◌, ◌⊎◌}
 use Rattle.store.proofs.DepositRows.{none_beyond, serials_within, visible_view}
-use Rattle.store.proofs.Members.{none_pass, some_pass}
-use Rattle.store.proofs.Readers.{rights_are}
+use Rattle.store.proofs.{Words.◌≤◌, Words.◌⊎◌, Members.none_pass, Members.some_pass, Readers.rights_are}
 use Rattle.store.specs.auxiliary.Replay.{replayed}
 use Rattle.store.specs.auxiliary.Steps.{AreCursors, AreNextReadable, IsNextOf, IsNextReadable, IsNextSeen, later_of}
 use Rattle.store.specs.auxiliary.Steps.{least_in, least_of, listing_at}

@@ -1,10 +1,8 @@
 -- A migration of the tables, as the store tells it.
 use Rattle.book.specs.declared.fault.StoreFault.TheVariants.{Database, NotOurs}
 use Rattle.store.proofs.Words.{Err, Ok, Result, State, inl, inr, opening_fault_of, refl, ◌≡◌}
-use Rattle.tables.specs.Migration.{Migrates}
-use Rattle.tables.specs.declared.fault.OpenFault.{OpenFault}
-use Rattle.store.specs.Files.{LeavesOrMigrates}
-use Rattle.store.specs.TablesOf.{tables_of}
+use Rattle.tables.specs.{Migration.Migrates, declared.fault.OpenFault.OpenFault}
+use Rattle.store.specs.{Files.LeavesOrMigrates, TablesOf.tables_of}
 use Rattle.tables.specs.declared.fault.OpenFault.TheVariants as opening
 
 pub migrated_as : {E F : Type 0} (old new : State) → Migrates {E = E} old new (Ok tt) → Migrates {E = F} old new (Ok tt)

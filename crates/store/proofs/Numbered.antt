@@ -6,9 +6,8 @@ use Rattle.store.proofs.Words.{first_of, greatest_by, hold_row, holds, holds_at,
 use Rattle.store.proofs.Words.{list_any, map, max, max-eq_left, next_by, option_map, refl, subst, suc, sym, ℕ, ℤ, ◌+◌}
 use Rattle.store.proofs.Words.{◌<◌, ◌||◌, ◌∙◌, ◌∷◌, ◌≡◌}
 use Rattle.store.proofs.Members.{IsFalling, IsFirstAs, greatest_is_first}
-use Rattle.store.specs.TablesOf.{numbered}
-use Rattle.store.specs.auxiliary.Replay.{replayed}
 use Rattle.store.specs.auxiliary.Steps.{calibration_from, count_of}
+use Rattle.store.specs.{TablesOf.numbered, auxiliary.Replay.replayed}
 
 pub max_more : (n : ℕ) → max (n + 1) n ≡ suc n
 max_more n = let one : n + 1 ≡ suc n = omega arith in max-eq_left (omega arith) ∙ one

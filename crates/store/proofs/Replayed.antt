@@ -5,15 +5,11 @@ use Rattle.store.proofs.Words.{count_of_day, day_of, false, filter, filter_map, 
 use Rattle.store.proofs.Words.{is_reader_row, is_tally_of, list_any, map, not, or_parts, raised_row, reader_after_grant}
 use Rattle.store.proofs.Words.{reader_after_revocation, refl, reservations, subst, sum_by-cons, sym, true, zero, ℕ}
 use Rattle.store.proofs.Words.{◌&&◌, ◌+◌, ◌==◌, ◌||◌, ◌∙◌, ◌∷◌, ◌≡◌}
-use Rattle.store.proofs.DepositRows.{deposits_are}
-use Rattle.store.proofs.Installed.{identities_are}
 use Rattle.store.proofs.Numbered.{calibrations_are, holds_are}
 use Rattle.store.proofs.Readers.{key_is, key_passes, other_kind}
-use Rattle.store.proofs.Stamps.{stamps_are}
-use Rattle.store.proofs.Tallies.{tallies_count}
+use Rattle.store.proofs.{DepositRows.deposits_are, Installed.identities_are, Stamps.stamps_are, Tallies.tallies_count}
 use Rattle.store.specs.TablesOf.{firsts, granted_in, group_granted_in, group_readers_of, once, readers_of, tables_of}
-use Rattle.store.specs.TablesOf.{tally_of}
-use Rattle.store.specs.auxiliary.Replay.{replayed}
+use Rattle.store.specs.{TablesOf.tally_of, auxiliary.Replay.replayed}
 use Rattle.store.proofs.Tallies as tally
 
 -- ---- readers

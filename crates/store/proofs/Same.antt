@@ -5,8 +5,7 @@ use Rattle.store.proofs.Words.{Keeps, List, Name, ReservationValue, TallyRow, []
 use Rattle.store.proofs.Words.{hold_row, is_of_day, map, refl, reservations, rows_of, stamp_of, stamps, subst, sym}
 use Rattle.store.proofs.Words.{the_version, token_of, ℕ, ◌∙◌, ◌∷◌, ◌≡◌}
 use Rattle.store.proofs.Readers.{group_readers_are, group_readers_once, once_same, readers_are, readers_once}
-use Rattle.store.proofs.Readers.{stands_reordered}
-use Rattle.store.proofs.Replayed.{replayed_is}
+use Rattle.store.proofs.{Readers.stands_reordered, Replayed.replayed_is}
 use Rattle.store.specs.TablesOf.{firsts, numbered, tables_of, tally_of}
 use Rattle.store.specs.auxiliary.Replay.{replayed}
 use Rattle.tables.specs.Names as name

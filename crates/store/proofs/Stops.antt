@@ -4,8 +4,7 @@ use Rattle.sqlite_trees.specs.Props.{Trees-set}
 use Rattle.sqlite_disk.specs.declared.Disk.{Ghosts}
 use Rattle.store.proofs.Words.{Database, IsDatabase, IsDatabaseOf, IsStored, Tables, ap, file_state, subst, sym, ◌∙◌}
 use Rattle.store.proofs.Words.{◌≡◌}
-use Rattle.store.specs.Stops.{FindsWhatIsHeld}
-use Rattle.store.specs.TablesOf.{tables_of}
+use Rattle.store.specs.{Stops.FindsWhatIsHeld, TablesOf.tables_of}
 
 pub finds_what_is_held : {D : Type 0} (files : Ghosts D)
     → ((t : Tables) (d : Database) → IsDatabase d → IsStored t d.trees → IsDatabaseOf t d) → FindsWhatIsHeld files

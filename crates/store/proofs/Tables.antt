@@ -1,7 +1,6 @@
 -- A store's words as a book's, and as those of its tables.
 use Rattle.book.specs.Stands.{OnlyLooks as BookLooks, Stands as BookStands}
-use Rattle.store.proofs.Words.{BaseValue, Ghosts, History, ◌↔◌}
-use Rattle.store.proofs.Calls.{stands_for}
+use Rattle.store.proofs.{Words.BaseValue, Words.Ghosts, Words.History, Words.◌↔◌, Calls.stands_for}
 use Rattle.store.specs.Stands.{OnlyLooks, Stands, over_tables}
 
 book_of : {S : Type 0} (g : Ghosts S) (b : History) (store : BaseValue S) → Stands g b store

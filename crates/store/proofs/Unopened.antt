@@ -1,8 +1,7 @@
 -- Why an opening finds no database.
 use Rattle.sqlite_trees.specs.declared.error.StoreError.{StoreError}
 use Rattle.sqlite_trees.specs.declared.error.StoreError.TheVariants.{Broken, Corrupt, Full, Io, OutOfMemory, Unstorable}
-use Rattle.sqlite.specs.declared.error.Error.TheVariants.{SqliteFailure}
-use Rattle.sqlite.specs.declared.file.Leftover.{Leftover}
+use Rattle.sqlite.specs.{declared.error.Error.TheVariants.SqliteFailure, declared.file.Leftover.Leftover}
 use Rattle.sqlite_disk.specs.declared.Disk.{Ghosts}
 use Rattle.store.proofs.Words.{Error, FailsToOpenFiles, Files, HoldsDatabase, IfSome, Image, IsCleanLeft, IsNothing}
 use Rattle.store.proofs.Words.{LeavesFiles, None, Option, Some, Trees, image_of, inl, inr, refl, store_error, subst}

@@ -5,10 +5,8 @@ use Rattle.store.proofs.Words.{OnlyLooks, Option, Reader, Some, Stands, Viewer, 
 use Rattle.store.proofs.Words.{length, length-replicate, listed, listed_view, option_map, option_to_list, refl}
 use Rattle.store.proofs.Words.{replicate, sym, unwrap_or, ℕ, ◌++◌, ◌<◌, ◌∙◌, ◌≡◌}
 use Rattle.store.proofs.Lists.{all_listed, listed_up_to, next_listed, still_cursors}
-use Rattle.store.specs.Stands.{over_tables}
 use Rattle.store.specs.auxiliary.Steps.{AreCursors, AreNextReadable, AreOwned, IsCursor, IsNextSeen, listing_at}
-use Rattle.store.specs.declared.cursors.Cursors.{Cursors}
-use Rattle.store.specs.declared.labels.Owned.{Owned}
+use Rattle.store.specs.{Stands.over_tables, declared.cursors.Cursors.Cursors, declared.labels.Owned.Owned}
 
 pub looks_after : {S : Type 0} (g : Ghosts S) (old mid new : BaseValue S) → OnlyLooks (over_tables g) old mid
     → OnlyLooks (over_tables g) mid new

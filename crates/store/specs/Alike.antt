@@ -3,9 +3,8 @@ use Rattle.std.specs.Prelude.{◌≡◌, ℕ, ℤ, List, IsPermutation}
 use Rattle.tables.specs.Tables.{Tables}
 use Rattle.book.specs.History.{History, greatest_serial, last_gen_time, count_of_day, latest_calibration, is_held}
 use Rattle.book.specs.History.{stamp_at, stamps_between, deposit_at, deposit_under}
-use Rattle.book.specs.Identities.{identities}
-use Rattle.book.specs.Readers.{Reader, Viewer}
 use Rattle.book.specs.Rights.{is_reader, seen_by, listed, deposit_with_stamp}
+use Rattle.book.specs.{Identities.identities, Readers.Reader, Readers.Viewer}
 
 -- the same rows in each table, in any order
 pub record HaveSameRows (t u : Tables) : Type 0 where

@@ -2,47 +2,29 @@
 -- closed.
 use Rattle.std.specs.Prelude.{◌≡◌, ◌==◌, ◌⊎◌, ℕ, Bool, true, false, if◌then◌else◌, List, [], ◌∷◌, ◌++◌, codes}
 use Rattle.std.specs.Prelude.{IsTrue, Option, None, IfSome, Result, Ok, Err}
-use Rattle.sqlite_disk.specs.declared.Disk.{Ghosts}
-use Rattle.sqlite_disk.specs.declared.Files.{Files}
-use Rattle.sqlite_trees.specs.Tree.{Trees}
-use Rattle.sqlite_trees.specs.View.{IsClean}
+use Rattle.sqlite_disk.specs.{declared.Disk.Ghosts, declared.Files.Files}
+use Rattle.sqlite_trees.specs.{Tree.Trees, View.IsClean}
 use Rattle.sqlite_wal.specs.Files.{outcomes}
 pub use Rattle.sqlite_wal.specs.Files.{image_at}
-use Rattle.sqlite_wal.specs.Recovery.{Image}
-use Rattle.sqlite_store.specs.declared.store.FileStore.{FileStore}
+use Rattle.sqlite_wal.specs.{Recovery.Image, Reads.AreClean}
+use Rattle.sqlite_store.specs.{declared.store.FileStore.FileStore, FileStore.view}
 use Rattle.sqlite_trees.specs.declared.store.Store as store
-use Rattle.sqlite_wal.specs.Reads.{AreClean}
-use Rattle.sqlite_store.specs.FileStore.{view}
-use Rattle.sqlite.specs.declared.error.Error.{Error}
-use Rattle.sqlite.specs.declared.error.Error.TheVariants.{SqliteFailure}
+use Rattle.sqlite.specs.Files.{file_state, over_files, image_of, IsOpened, IsCleanLeft, HoldsDatabase, IsNothing}
+use Rattle.sqlite.specs.{declared.error.Error.Error, declared.error.Error.TheVariants.SqliteFailure, Closing.IsCopied}
+use Rattle.sqlite.specs.{declared.file.Leftover.Leftover, Files.FailsToClose, Files.FailsToOpenFiles, Files.IsClosed}
+use Rattle.sqlite.specs.{Held.Held, Held.state, Start.FindsIn, State.State, State.HasCleanDisk}
 use Rattle.sqlite.specs.declared.error.ErrorCode.TheVariants as code
-use Rattle.sqlite.specs.Closing.{IsCopied}
 use Rattle.book.specs.declared.fault.StoreFault.{StoreFault}
 use Rattle.book.specs.declared.fault.StoreFault.TheVariants.{Database, NotOurs}
-use Rattle.store.specs.declared.paths.FileState.{FileState}
+use Rattle.book.specs.{Entries.with_all, Entries.FitInTurn, History.Entry, History.History, Sound.IsSound}
+use Rattle.store.specs.{declared.paths.FileState.FileState, declared.paths.Paths.Ghosts as Sight}
+use Rattle.store.specs.{declared.path.Course.Course, Stands.Stands, TablesOf.tables_of}
 use Rattle.store.specs.declared.paths.FileState.TheVariants as found
-use Rattle.store.specs.declared.paths.Paths.{Ghosts as Sight}
-use Rattle.store.specs.declared.path.Course.{Course}
 use Rattle.store.specs.declared.path.Course.TheVariants as course
-use Rattle.sqlite.specs.declared.file.Leftover.{Leftover}
-use Rattle.sqlite.specs.Files.{file_state, over_files, image_of, IsOpened, IsCleanLeft, HoldsDatabase, IsNothing}
-use Rattle.sqlite.specs.Files.{FailsToClose, FailsToOpenFiles, IsClosed}
-use Rattle.sqlite.specs.Held.{Held, state}
-use Rattle.sqlite.specs.Start.{FindsIn}
-use Rattle.sqlite.specs.State.{State, HasCleanDisk}
-use Rattle.tables.specs.QueryAnswers.{Looks, StaysUsable}
-use Rattle.tables.specs.Base.{BaseValue, IsStored}
-use Rattle.tables.specs.Faults.{fault_of, opening_fault_of, told, told_using}
-use Rattle.tables.specs.Migration.{Migrates}
 use Rattle.tables.specs.Versions.{IsFound, IsFoundIn, LooksOurs, LooksForeign, number_of}
-use Rattle.tables.specs.declared.fault.Task.TheVariants.{Open}
-use Rattle.tables.specs.declared.version.Version.{Version}
-use Rattle.tables.specs.Schema.{no_schema}
-use Rattle.book.specs.Entries.{with_all, FitInTurn}
-use Rattle.book.specs.History.{Entry, History}
-use Rattle.book.specs.Sound.{IsSound}
-use Rattle.store.specs.Stands.{Stands}
-use Rattle.store.specs.TablesOf.{tables_of}
+use Rattle.tables.specs.{QueryAnswers.Looks, QueryAnswers.StaysUsable, Base.BaseValue, Base.IsStored, Faults.fault_of}
+use Rattle.tables.specs.{Faults.opening_fault_of, Faults.told, Faults.told_using, Migration.Migrates}
+use Rattle.tables.specs.{declared.fault.Task.TheVariants.Open, declared.version.Version.Version, Schema.no_schema}
 
 -- what a refused making of the tables leaves, on a connection that is as usable: what is seen, while it is open; of
 -- what a crash leaves it says nothing

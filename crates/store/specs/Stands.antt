@@ -1,10 +1,7 @@
 -- Which histories a store stands for, and what its calls leave, said of the tables; and the store as a book.
-use Rattle.sqlite_trees.specs.Tree.{Trees}
-use Rattle.sqlite_trees.specs.declared.store.Store.{Ghosts}
+use Rattle.sqlite_trees.specs.{Tree.Trees, declared.store.Store.Ghosts}
 use Rattle.tables.specs.Base.{BaseValue, IsHonest, IsOpen, Keeps, Recovers, IsStored}
-use Rattle.book.specs.declared.standing.Standing.{Ghosts as Standing}
-use Rattle.book.specs.History.{History}
-use Rattle.book.specs.Sound.{IsSound}
+use Rattle.book.specs.{declared.standing.Standing.Ghosts as Standing, History.History, Sound.IsSound}
 use Rattle.store.specs.TablesOf.{tables_of}
 
 -- the history is sound, and while the connection is open and its disk returns what was written, the database holds its

@@ -4,10 +4,8 @@ use Rattle.sqlite_wal.specs.Recovery.{Image}
 use Rattle.sqlite_store.specs.declared.store.FileStore.{FileStore}
 use Rattle.sqlite.specs.Files.{over_files}
 use Rattle.tables.specs.Base.{BaseValue}
-use Rattle.book.specs.History.{History}
-use Rattle.book.specs.Sound.{IsSound}
-use Rattle.store.specs.Files.{OpensFound, HoldsTables}
-use Rattle.store.specs.Stands.{Stands}
+use Rattle.book.specs.{History.History, Sound.IsSound}
+use Rattle.store.specs.{Files.OpensFound, Files.HoldsTables, Stands.Stands}
 
 -- Whatever left the files as they are: a store that is opened over them stands for each sound history whose tables they
 -- hold.

@@ -1,15 +1,12 @@
 -- The tables of a history: what each of them holds is what the history says.
 use Rattle.std.specs.Prelude.{ℕ, ◌+◌, not, List, [], ◌∷◌, length, map, filter, filter_map, Option, None, Some}
-use Rattle.std.specs.Prelude.{if◌then◌else◌}
-use Rattle.std.specs.List.{list_any}
+use Rattle.std.specs.{Prelude.if◌then◌else◌, List.list_any}
 use Rattle.tables.specs.Changes.{calibration_row, hold_row}
 use Rattle.tables.specs.Tables.{Tables, ReaderRow, TallyRow, is_reader_row}
 use Rattle.book.specs.History.{Entry, Granted, History}
 use Rattle.book.specs.History.{ReservationValue, stamps, calibrations, holds, deposits}
 use Rattle.book.specs.History.{reservations, day_of, is_of_day, count_of_day}
-use Rattle.book.specs.Identities.{installed_rows}
-use Rattle.book.specs.Readers.{Account, Group}
-use Rattle.book.specs.Rights.{is_reader}
+use Rattle.book.specs.{Identities.installed_rows, Readers.Account, Readers.Group, Rights.is_reader}
 
 -- calibrations and holds are numbered 1, 2, 3 in the order of their entries, the newest of which comes first
 abbrev pub numbered : {X Y : Type 0} → (X → ℕ → Y) → List X → List Y

@@ -1,23 +1,14 @@
 //! How a store is made over a connection, and closed.
 ghost use Rattle.std.specs.Prelude.{◌≡◌, ◌⊎◌, [], false, IfOk, IfErr, OnOk, IsTrue, MatchResult};
 ghost use Rattle.sqlite_wal.specs.Reads.{AreClean};
-ghost use Rattle.sqlite.specs.Files.{over_files};
-ghost use Rattle.sqlite.specs.Held.{state};
-ghost use Rattle.sqlite.specs.State.{HasCleanDisk};
-ghost use Rattle.tables.specs.QueryAnswers.{Looks};
-ghost use Rattle.tables.specs.Migration.{Migrates};
+ghost use Rattle.sqlite.specs.{Files.over_files, Held.state, State.HasCleanDisk};
 ghost use Rattle.tables.specs.Versions.{IsFound, IsFoundIn, LooksOurs, LooksAs, LooksForeign, IsInTheWay};
-ghost use Rattle.tables.specs.Versions.{IsUntold, number_of, takes_name};
-ghost use Rattle.tables.specs.declared.version.Version.{Version};
-ghost use Rattle.tables.specs.Schema.{no_schema};
+ghost use Rattle.tables.specs.{QueryAnswers.Looks, Migration.Migrates, Versions.IsUntold, Versions.number_of};
+ghost use Rattle.tables.specs.{Versions.takes_name, declared.version.Version.Version, Schema.no_schema};
 ghost use Rattle.book.specs.Entries.{entries_view, with_all, FitInTurn};
-ghost use Rattle.book.specs.Fault.{IsOfStorage, IsOfStorageOr};
-ghost use Rattle.book.specs.History.{History};
+ghost use Rattle.book.specs.{Fault.IsOfStorage, Fault.IsOfStorageOr, History.History, Sound.IsSound};
 ghost use Rattle.store.specs.Files.{HasClosed, LeavesFiles, LeavesAsItWas, LeavesOrMakes, LeavesOrMigrates};
-ghost use Rattle.store.specs.Files.{told_closing};
-ghost use Rattle.book.specs.Sound.{IsSound};
-ghost use Rattle.store.specs.Stands.{Stands};
-ghost use Rattle.store.specs.TablesOf.{tables_of};
+ghost use Rattle.store.specs.{Files.told_closing, Stands.Stands, TablesOf.tables_of};
 
 use crate::store::Store;
 use book::{Entry, StoreFault};

@@ -3,11 +3,8 @@
 ghost use Rattle.std.specs.Prelude.{◌≡◌, ◌<◌, ◌^◌, length, map, replicate, Some, IfOk, IfErr, IfSome, OnOk};
 ghost use Rattle.std.specs.Prelude.{IsTrue};
 ghost use Rattle.tables.specs.Base.{IsHonest};
-ghost use Rattle.book.specs.History.{History};
 ghost use Rattle.book.specs.Fault.{CountsFaults, IsOfStorage};
-ghost use Rattle.book.specs.Entries.{reader_view};
-ghost use Rattle.book.specs.Values.{viewer_of};
-ghost use Rattle.book.specs.Stands.{Stands, OnlyLooks};
+ghost use Rattle.book.specs.{History.History, Entries.reader_view, Values.viewer_of, Stands.Stands, Stands.OnlyLooks};
 ghost use Rattle.store.specs.Stands.{over_tables};
 ghost use Rattle.store.specs.auxiliary.Steps.{IsNextSeen, IsNextReadable, IsCursor, AreCursors, AreNextReadable};
 ghost use Rattle.store.specs.auxiliary.Steps.{AreOwned, least_of, least_in, later_of};

@@ -2,14 +2,10 @@
 ghost use Rattle.std.specs.Prelude.{◌≡◌, map, option_map, IfOk, IfErr, OnOk};
 ghost use Rattle.std.specs.Prelude.{◌++◌, option_to_list};
 ghost use Rattle.tables.specs.Base.{IsHonest, IsOpen};
-ghost use Rattle.book.specs.History.{History};
 ghost use Rattle.book.specs.Fault.{CountsFaults, IsOfStorage};
-ghost use Rattle.book.specs.Entries.{reader_view};
-ghost use Rattle.book.specs.Rights.{is_reader, may_read};
-ghost use Rattle.book.specs.Values.{listed_view, viewer_of};
-ghost use Rattle.book.specs.Stands.{Stands, OnlyLooks};
-ghost use Rattle.store.specs.Stands.{over_tables};
-ghost use Rattle.store.specs.auxiliary.Steps.{listing_at, AreOwned};
+ghost use Rattle.book.specs.{History.History, Entries.reader_view, Rights.is_reader, Rights.may_read};
+ghost use Rattle.book.specs.{Values.listed_view, Values.viewer_of, Stands.Stands, Stands.OnlyLooks};
+ghost use Rattle.store.specs.{Stands.over_tables, auxiliary.Steps.listing_at, auxiliary.Steps.AreOwned};
 
 use crate::labels::Owned;
 use crate::store::Store;

@@ -1,16 +1,11 @@
 //! What was looked up of the deposits of owners, so that a list goes through those of each owner once.
 ghost use Rattle.std.specs.Prelude.{◌≡◌, ◌<◌, List, length, IfOk, IfErr, IfSome, OnOk, HoldsAt};
 ghost use Rattle.std.specs.Prelude.{string_bytes};
-ghost use Rattle.tables.specs.Base.{IsHonest, IsOpen};
-ghost use Rattle.tables.specs.Found.{IsFoundAs, IsLeastAs};
 ghost use Rattle.tables.specs.Queries.{ShowsDepositSerial, ShowsReference, is_owned, is_owned_after};
-ghost use Rattle.tables.specs.Tables.{DepositRow};
-ghost use Rattle.book.specs.History.{History};
-ghost use Rattle.book.specs.Fault.{CountsFaults, IsOfStorage};
-ghost use Rattle.book.specs.Stands.{Stands, OnlyLooks};
-ghost use Rattle.store.specs.Stands.{over_tables};
-ghost use Rattle.store.specs.auxiliary.Replay.{replayed};
+ghost use Rattle.tables.specs.{Base.IsHonest, Base.IsOpen, Found.IsFoundAs, Found.IsLeastAs, Tables.DepositRow};
+ghost use Rattle.book.specs.{History.History, Fault.CountsFaults, Fault.IsOfStorage, Stands.Stands, Stands.OnlyLooks};
 ghost use Rattle.store.specs.auxiliary.Steps.{AreLabels, AreOwned};
+ghost use Rattle.store.specs.{Stands.over_tables, auxiliary.Replay.replayed};
 
 use crate::store::Store;
 use book::StoreFault;

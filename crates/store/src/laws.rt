@@ -1,17 +1,12 @@
 //! What holds of each history, and of the store as a book.
 ghost use Rattle.std.specs.Prelude.{◌≡◌, ◌≤◌, ◌<◌, ◌↔◌, true, Contains};
-ghost use Rattle.tables.specs.Base.{BaseValue};
-ghost use Rattle.tables.specs.Tables.{ReaderRow, TallyRow};
+ghost use Rattle.tables.specs.{Base.BaseValue, Tables.ReaderRow, Tables.TallyRow};
 ghost use Rattle.book.specs.Stands.{Stands as BookStands, OnlyLooks as BookLooks};
 ghost use Rattle.book.specs.History.{History, ReservationValue, Reserved};
 ghost use Rattle.book.specs.History.{count_of_day, greatest_serial, reservations};
-ghost use Rattle.book.specs.Readers.{Account, Group};
-ghost use Rattle.book.specs.Rights.{is_reader};
-ghost use Rattle.book.specs.Sound.{Fits, IsSound};
+ghost use Rattle.book.specs.{Readers.Account, Readers.Group, Rights.is_reader, Sound.Fits, Sound.IsSound};
 ghost use Rattle.store.specs.Alike.{HaveSameRows, AreAlike};
-ghost use Rattle.store.specs.Stands.{Stands, OnlyLooks};
-ghost use Rattle.store.specs.Stops.{FindsWhatIsHeld};
-ghost use Rattle.store.specs.TablesOf.{tables_of};
+ghost use Rattle.store.specs.{Stands.Stands, Stands.OnlyLooks, Stops.FindsWhatIsHeld, TablesOf.tables_of};
 
 use crate::store::Store;
 use book::Standing;

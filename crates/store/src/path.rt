@@ -2,24 +2,15 @@
 ghost use Rattle.std.specs.Prelude.{◌≡◌, ◌↔◌, [], false, Ok, IfOk, IfErr, OnOk, IsTrue};
 ghost use Rattle.sqlite_wal.specs.Files.{image_at};
 ghost use Rattle.sqlite.specs.Files.{file_state, over_files, IsOpened, IsBlankAs};
-ghost use Rattle.sqlite.specs.Held.{state};
-ghost use Rattle.sqlite.specs.Start.{FindsIn};
-ghost use Rattle.sqlite.specs.State.{HasCleanDisk};
+ghost use Rattle.sqlite.specs.{Held.state, Start.FindsIn, State.HasCleanDisk, declared.error.Error.Error as SpecError};
 ghost use Rattle.sqlite_store.specs.FileStore.{view};
-ghost use Rattle.tables.specs.QueryAnswers.{Looks};
-ghost use Rattle.tables.specs.Schema.{no_schema};
-ghost use Rattle.tables.specs.Versions.{IsFound, LooksOurs};
+ghost use Rattle.tables.specs.{QueryAnswers.Looks, Schema.no_schema, Versions.IsFound, Versions.LooksOurs};
 ghost use Rattle.book.specs.Entries.{entries_view, with_all, FitInTurn};
-ghost use Rattle.book.specs.History.{History};
-ghost use Rattle.book.specs.Sound.{IsSound};
-ghost use Rattle.store.specs.TablesOf.{tables_of};
-ghost use Rattle.store.specs.Stands.{Stands};
+ghost use Rattle.book.specs.{History.History, Sound.IsSound, Fault.IsOfStorageOr};
 ghost use Rattle.store.specs.Files.{OpensFound, IsForeign, OpensNothing, SeemsForeign, IsMigrated, HasMigrated};
 ghost use Rattle.store.specs.Files.{FailsToOpen, IsBare, IsFree, IsFreeAt, MigratesFound};
-ghost use Rattle.store.specs.Files.{told_opening};
 ghost use Rattle.store.specs.Files.{fault_where, fault_where_made, fault_at};
-ghost use Rattle.book.specs.Fault.{IsOfStorageOr};
-ghost use Rattle.sqlite.specs.declared.error.Error.{Error as SpecError};
+ghost use Rattle.store.specs.{TablesOf.tables_of, Stands.Stands, Files.told_opening};
 
 use crate::connection::close;
 use crate::paths::{FileState, Paths};

@@ -1,16 +1,11 @@
 //! What a history has one after the other, by number: calibrations, holds and identities, each in turn, and all.
 ghost use Rattle.std.specs.Prelude.{◌≡◌, ◌<◌, ◌^◌, List, map, option_map, reverse, slice_get, IfOk, IfErr, OnOk};
-ghost use Rattle.tables.specs.Base.{IsHonest, IsOpen};
-ghost use Rattle.tables.specs.Queries.{LooksUp};
+ghost use Rattle.tables.specs.{Base.IsHonest, Base.IsOpen, Queries.LooksUp};
 ghost use Rattle.book.specs.Fault.{CountsFaults, IsOfStorage};
 ghost use Rattle.book.specs.History.{CalibrationValue, History, HoldValue, calibrations, holds};
-ghost use Rattle.book.specs.Identities.{identities};
-ghost use Rattle.book.specs.Rows.{InstalledRow};
-ghost use Rattle.book.specs.Sound.{IsSound};
-ghost use Rattle.book.specs.Stands.{Stands, OnlyLooks};
 ghost use Rattle.book.specs.Values.{calibration_view, hold_view, identity_view};
-ghost use Rattle.store.specs.auxiliary.Replay.{replayed};
-ghost use Rattle.store.specs.Stands.{over_tables};
+ghost use Rattle.book.specs.{Identities.identities, Rows.InstalledRow, Sound.IsSound, Stands.Stands, Stands.OnlyLooks};
+ghost use Rattle.store.specs.{auxiliary.Replay.replayed, Stands.over_tables};
 
 use crate::store::{Store, calibration_from};
 use book::{Calibration, Hold, IdentityRow, StoreFault};

@@ -1,8 +1,7 @@
 -- What is said of an answer, where there is a refusal: nothing.
 use Rattle.tables.proofs.Words.{Err, Error, IfOk, IsErr, KeepsCommit, Ok, OnOk, Result, State, Survives, Trees, arith}
 use Rattle.tables.proofs.Words.{inl, refl}
-use Rattle.tables.specs.Tables.{Tables}
-use Rattle.tables.specs.Transaction.{Carries}
+use Rattle.tables.specs.{Tables.Tables, Transaction.Carries}
 
 pub no_answer : {A E : Type 0} (r : Result A E) (P : A → Type 0) → IsErr r → IfOk r P
 no_answer (Ok a) P refused = absurd cc

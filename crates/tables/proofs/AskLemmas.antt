@@ -5,14 +5,12 @@ use Rattle.tables.proofs.Words.{IfErr, IfOk, IsDatabase, IsNotRun, IsPlain, IsRo
 use Rattle.tables.proofs.Words.{KeepsCommit, List, None, Ok, OnOk, Reads, RefusesToRead, Result, Returning, Row, Shown}
 use Rattle.tables.proofs.Words.{ShowsRows, Some, SqliteFailure, State, Survives, ap, append-nil, arith, command_of, inl}
 use Rattle.tables.proofs.Words.{inr, reads_as, refl, state, subst, sym, true, understood, ℕ, ◌∙◌, ◌≡◌, ◌≢◌, ◌≤◌, ◌⊎◌}
-use Rattle.tables.specs.Layout.{IsDatabaseOf}
-use Rattle.tables.specs.QueryAnswers.{Answers, AsksInside, IsPlainIn, IsQueryText, Looks, StaysUsable, TellsRows}
-use Rattle.tables.specs.Schema.{the_schema}
-use Rattle.tables.specs.Tables.{Tables}
-use Rattle.tables.specs.Transaction.{Carries, Goes, IsSoundOf}
-use Rattle.tables.specs.Versions.{HasFailed, IsRefused, IsUnanswered, IsUnderstood}
 use Rattle.tables.proofs.CarryLemmas.{keeps_unchanged, keeps_undone}
 use Rattle.tables.proofs.UsableLemmas.{survivor_usable, usable_in_turn}
+use Rattle.tables.specs.QueryAnswers.{Answers, AsksInside, IsPlainIn, IsQueryText, Looks, StaysUsable, TellsRows}
+use Rattle.tables.specs.Transaction.{Carries, Goes, IsSoundOf}
+use Rattle.tables.specs.Versions.{HasFailed, IsRefused, IsUnanswered, IsUnderstood}
+use Rattle.tables.specs.{Layout.IsDatabaseOf, Schema.the_schema, Tables.Tables}
 use Rattle.sqlite.specs.declared.error.ErrorCode.TheVariants as code
 use Rattle.sqlite_trees.specs.declared.error.StoreError.TheVariants as stored
 

@@ -2,15 +2,10 @@
 use Rattle.book.specs.History.{Entry}
 use Rattle.tables.proofs.Words.{Database, Err, Error, Ghosts, HasCleanDisk, Held, IsDatabase, IsTrue, List, Ok, OnErr}
 use Rattle.tables.proofs.Words.{OnOk, Result, Trees, ap, false, inl, inr, state, subst, sym, ◌∙◌, ◌≡◌, ◌⊎◌}
-use Rattle.tables.specs.Base.{StandsFor}
-use Rattle.tables.specs.Changes.{applied_all}
-use Rattle.tables.specs.Layout.{IsDatabaseOf, IsStored}
-use Rattle.tables.specs.QueryAnswers.{Looks}
-use Rattle.tables.specs.Schema.{no_schema}
-use Rattle.tables.specs.Tables.{Tables, no_rows}
-use Rattle.tables.specs.Transaction.{Commits}
-use Rattle.tables.specs.Versions.{Creates, IsFound}
 use Rattle.tables.proofs.CommitLemmas.{stored}
+use Rattle.tables.specs.Layout.{IsDatabaseOf, IsStored}
+use Rattle.tables.specs.{Base.StandsFor, Changes.applied_all, QueryAnswers.Looks, Schema.no_schema, Tables.Tables}
+use Rattle.tables.specs.{Tables.no_rows, Transaction.Commits, Versions.Creates, Versions.IsFound}
 
 -- a crash leaves the last commit of an open store
 abbrev pub IsSettled : {S : Type 0} → Ghosts S → Type 0

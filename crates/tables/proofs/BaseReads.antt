@@ -1,14 +1,8 @@
 -- What a query makes of a connection that keeps tables, and what a look-up tells by it.
 use Rattle.tables.proofs.Words.{Err, Ghosts, IfOk, IsDatabase, IsErrAnd, Ok, Result, arith, false, inl, refl, state}
-use Rattle.tables.proofs.Words.{subst, sym, ◌≡◌}
-use Rattle.tables.specs.Base.{BaseValue}
-use Rattle.tables.specs.Changes.{IsCounted}
-use Rattle.tables.specs.Layout.{IsDatabaseOf}
-use Rattle.tables.specs.Queries.{LooksUp, OnlyReads}
-use Rattle.tables.specs.QueryAnswers.{Looks}
-use Rattle.tables.specs.Tables.{Tables}
-use Rattle.tables.specs.declared.fault.TableFault.{TableFault}
-use Rattle.tables.proofs.UsableLemmas.{usable_in_turn}
+use Rattle.tables.proofs.{Words.subst, Words.sym, Words.◌≡◌, UsableLemmas.usable_in_turn}
+use Rattle.tables.specs.{Base.BaseValue, Changes.IsCounted, Layout.IsDatabaseOf, Queries.LooksUp, Queries.OnlyReads}
+use Rattle.tables.specs.{QueryAnswers.Looks, Tables.Tables, declared.fault.TableFault.TableFault}
 
 -- it leaves what the tables are
 pub reads_only : {S : Type 0} (g : Ghosts S) (old new : BaseValue S) → new.conn.in_transaction ≡ false

@@ -3,11 +3,9 @@ use Rattle.tables.proofs.Words.{Command, Database, Does, Err, Error, ExecutesIns
 use Rattle.tables.proofs.Words.{IsRolledBack, IsTrue, IsUnchanged, KeepsCommit, List, None, Ok, OnOk, Option, Result}
 use Rattle.tables.proofs.Words.{Row, Runs, State, Survives, Tally, Trees, Writes, command_of, inl, inr, runs_as}
 use Rattle.tables.proofs.Words.{statement_of, subst, understood, unwrap_or, ℕ, ◌≡◌}
-use Rattle.tables.specs.Layout.{Holds, IsDatabaseOf}
-use Rattle.tables.specs.Schema.{the_schema}
-use Rattle.tables.specs.Tables.{Tables}
-use Rattle.tables.specs.Transaction.{Carries, Goes}
 use Rattle.tables.proofs.WriteLemmas.{plain_mode}
+use Rattle.tables.specs.Transaction.{Carries, Goes}
+use Rattle.tables.specs.{Layout.Holds, Layout.IsDatabaseOf, Schema.the_schema, Tables.Tables}
 
 pub keeps_unchanged : (old new : State) → IsUnchanged old new → KeepsCommit old new
 keeps_unchanged old new h = record { was_open = λ _. h.0.was_open; committed = λ _. h.0.committed_is }

@@ -7,9 +7,9 @@ use Rattle.tables.proofs.Words.{IsShaped, List, Null, Row, Value, [], and_parts,
 use Rattle.tables.proofs.Words.{filter, filter-map, has_filtered, has_kept, have_rowids, ids_of, map, map-append}
 use Rattle.tables.proofs.Words.{map-map, not, numbered, pull_back, put_all, put_row, refl, subst, sym, true}
 use Rattle.tables.proofs.Words.{without_all, ℤ, ◌++◌, ◌∙◌, ◌∷◌, ◌≡◌, ◌≢◌}
-use Rattle.tables.specs.Layout.{AreRows, said}
 use Rattle.tables.proofs.ListLemmas.{filter_equal, has_image, has_permutation, image_has, map_same_in, split_changed}
 use Rattle.tables.proofs.RowLemmas.{left_is, put_all_is}
+use Rattle.tables.specs.Layout.{AreRows, said}
 
 pub numbered_given : (rows news : List Row) → numbered Given rows news ≡ news
 numbered_given rows [] = refl

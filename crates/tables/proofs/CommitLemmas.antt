@@ -2,11 +2,9 @@
 use Rattle.tables.proofs.Words.{Database, Err, Error, FailsToCommit, Ghosts, HasCleanDisk, Held, IfErr, IsDatabase}
 use Rattle.tables.proofs.Words.{IsSound, IsTrue, KeepsCommit, KeepsCounts, Ok, OnErr, OnOk, Result, Shows, State}
 use Rattle.tables.proofs.Words.{Survives, [], arith, false, inl, inr, refl, state, subst, sym, true, ◌∙◌, ◌≡◌}
-use Rattle.tables.specs.Layout.{IsDatabaseOf, IsStored}
-use Rattle.tables.specs.QueryAnswers.{StaysUsable}
-use Rattle.tables.specs.Tables.{Tables}
-use Rattle.tables.specs.Transaction.{CarriesFrom, CommitsFrom, GoesFrom}
 use Rattle.tables.proofs.UsableLemmas.{survivor_usable, usable_in_turn}
+use Rattle.tables.specs.Transaction.{CarriesFrom, CommitsFrom, GoesFrom}
+use Rattle.tables.specs.{Layout.IsDatabaseOf, Layout.IsStored, QueryAnswers.StaysUsable, Tables.Tables}
 
 -- a sound database of the tables lists our schema
 pub stored : (t : Tables) (d : Database) → IsDatabaseOf t d → IsDatabase d → IsStored t d.trees

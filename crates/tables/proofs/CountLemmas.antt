@@ -2,11 +2,10 @@
 use Rattle.tables.proofs.Words.{Bool, Database, Err, Error, HasCleanDisk, IsTrue, KeepsCommit, List, Ok, OnOk, Result}
 use Rattle.tables.proofs.Words.{State, [], ap, arith, cond, false, filter, length, list_any, map, refl, subst}
 use Rattle.tables.proofs.Words.{survives_then, sym, true, ℕ, ◌+◌, ◌||◌, ◌∙◌, ◌∷◌, ◌≡◌, ◌≢◌}
-use Rattle.tables.specs.Layout.{IsDatabaseOf}
-use Rattle.tables.specs.Tables.{Tables, TallyRow, is_tally_of, raised_row}
+use Rattle.tables.proofs.ListLemmas.{none_any, some_any}
 use Rattle.tables.specs.Transaction.{Carries, CarriesFrom, Goes, GoesFrom, IsSoundOf}
 use Rattle.tables.specs.auxiliary.Steps.{with_count, with_first_tally, with_raised}
-use Rattle.tables.proofs.ListLemmas.{none_any, some_any}
+use Rattle.tables.specs.{Layout.IsDatabaseOf, Tables.Tables, Tables.TallyRow, Tables.is_tally_of, Tables.raised_row}
 
 pub keeps_then : (a b c : State) → KeepsCommit a b → KeepsCommit b c → KeepsCommit a c
 keeps_then a b c p q =

@@ -6,18 +6,15 @@ use Rattle.tables.proofs.Words.{Row, Schema, State, Survives, Table, Tally, Term
 use Rattle.tables.proofs.Words.{all_both, ap, command_of, created, edit_of, everything, false, is_used, lacks_sequence}
 use Rattle.tables.proofs.Words.{length, lit, map, next_rowid, next_tree, pos, refl, state, statement_of, subst, sym}
 use Rattle.tables.proofs.Words.{table_defined_by, true, understood, value_rows, ℕ, ◌∙◌, ◌∷◌, ◌≡◌, ◌≢◌}
-use Rattle.tables.specs.Layout.{AreRows, HoldsAt, IsDatabaseOf, tree_of, version_cells}
-use Rattle.tables.specs.Names.{Name, names}
-use Rattle.tables.specs.Schema.{no_schema, placed, schema_after, table_for, the_schema, the_version}
-use Rattle.tables.specs.Tables.{no_rows}
-use Rattle.tables.specs.Transaction.{CarriesFrom, GoesFrom}
-use Rattle.tables.specs.auxiliary.Creation.{insert_version, make_all, text_for}
 use Rattle.tables.proofs.BatchLemmas.{Goes, InTurn, Ran, are_cut, in_turn, ran_as}
-use Rattle.tables.proofs.ChangeLemmas.{inserted}
 use Rattle.tables.proofs.FrameLemmas.{at_name, framed, is_current, placed_table}
 use Rattle.tables.proofs.InsertLemmas.{cast_int, cast_null}
-use Rattle.tables.proofs.NameLemmas.{free_as_alone, makes}
 use Rattle.tables.proofs.WriteLemmas.{inserts, plain_mode, same_ok, went}
+use Rattle.tables.proofs.{ChangeLemmas.inserted, NameLemmas.free_as_alone, NameLemmas.makes}
+use Rattle.tables.specs.Layout.{AreRows, HoldsAt, IsDatabaseOf, tree_of, version_cells}
+use Rattle.tables.specs.Schema.{no_schema, placed, schema_after, table_for, the_schema, the_version}
+use Rattle.tables.specs.auxiliary.Creation.{insert_version, make_all, text_for}
+use Rattle.tables.specs.{Names.Name, Names.names, Tables.no_rows, Transaction.CarriesFrom, Transaction.GoesFrom}
 use Rattle.tables.specs.declared.version.Version.TheVariants as version
 use Rattle.tables.specs.Names as name
 

@@ -3,13 +3,10 @@ use Rattle.book.specs.declared.entries.Entry.{Entry}
 use Rattle.tables.proofs.Words.{Database, Err, Error, IsTrue, List, Ok, Result, State, [], ap, arith, entries_view}
 use Rattle.tables.proofs.Words.{entry_view, eqb-true, get_or, length, map-append, refl, sym, take, take_all, take_more}
 use Rattle.tables.proofs.Words.{true, ℕ, ◌++◌, ◌+◌, ◌<◌, ◌==◌, ◌∙◌, ◌∷◌, ◌≡◌, ◌≤◌}
-use Rattle.tables.specs.Changes.{applied, applied_all}
-use Rattle.tables.specs.Schema.{no_schema}
-use Rattle.tables.specs.Tables.{Tables, no_rows}
-use Rattle.tables.specs.Transaction.{Carries, CarriesFrom, IsSoundOf}
-use Rattle.tables.specs.Versions.{Fills}
 use Rattle.tables.proofs.AnswerLemmas.{keeps_same, survives_same}
 use Rattle.tables.proofs.CountLemmas.{built_on, chained, restated}
+use Rattle.tables.specs.{Changes.applied, Changes.applied_all, Schema.no_schema, Tables.Tables, Tables.no_rows}
+use Rattle.tables.specs.{Transaction.Carries, Transaction.CarriesFrom, Transaction.IsSoundOf, Versions.Fills}
 use Rattle.book.specs.History as history
 
 applied_more : (entries : List history.Entry) (entry : history.Entry) (t : Tables)

@@ -2,18 +2,15 @@
 use Rattle.std.specs.Prelude.{slice_get}
 use Rattle.sqlite_resolve.specs.Body.{table_at}
 use Rattle.sqlite.specs.Given.{IsPlain}
-use Rattle.sqlite_ast.specs.declared.Rows.{Rows}
-use Rattle.sqlite_ast.specs.declared.Statement.{Statement}
+use Rattle.sqlite_ast.specs.{declared.Rows.Rows, declared.Statement.Statement}
 use Rattle.tables.proofs.Words.{Checked, Command, Compiled, Err, Insert, List, NoSuchTable, None, Ok, Option, Parsed}
 use Rattle.tables.proofs.Words.{Returning, Schema, Table, Values, [], and_then, ap, codes, command_of, compiled}
 use Rattle.tables.proofs.Words.{everything, first, formats_of, if_select, if◌then◌else◌, listing_schema, misses_table}
 use Rattle.tables.proofs.Words.{new_rows, on_table, option_and_then, option_map, or_else, refl, small, understood}
 use Rattle.tables.proofs.Words.{unwrap_or, ℕ, ◌+◌, ◌∙◌, ◌∷◌, ◌≡◌}
+use Rattle.tables.proofs.{CreateLemmas.version_terms, FreeLemmas.HasMeta}
 use Rattle.tables.specs.Schema.{meta, placed, the_schema}
-use Rattle.tables.specs.Versions.{IsUnderstood}
-use Rattle.tables.specs.auxiliary.Creation.{insert_version}
-use Rattle.tables.proofs.CreateLemmas.{version_terms}
-use Rattle.tables.proofs.FreeLemmas.{HasMeta}
+use Rattle.tables.specs.{Versions.IsUnderstood, auxiliary.Creation.insert_version}
 use Rattle.sqlite_ast.specs.declared.Rows.TheVariants as rows
 use Rattle.sqlite_ast.specs.declared.Statement.TheVariants as written
 

@@ -2,15 +2,12 @@
 use Rattle.std.specs.Option.{is_some}
 use Rattle.tables.proofs.Words.{Bool, Contains, Ghosts, Has, List, None, Option, Result, Row, Some, [], ap}
 use Rattle.tables.proofs.Words.{contains_had, false, has_contained, inl, inr, list_any, map, refl, subst, sym, true, ℕ}
-use Rattle.tables.proofs.Words.{◌++◌, ◌||◌, ◌∙◌, ◌∷◌, ◌≡◌}
-use Rattle.tables.specs.Base.{BaseValue}
+use Rattle.tables.proofs.LookupLemmas.{Finds, FindsAll, FindsGreatest, FindsLeast}
+use Rattle.tables.proofs.{Words.◌++◌, Words.◌||◌, Words.◌∙◌, Words.◌∷◌, Words.◌≡◌, BaseReads.retold}
 use Rattle.tables.specs.Found.{AreFoundAs, IsFoundAs, IsGreatestAs, IsLeastAs}
 use Rattle.tables.specs.Queries.{LooksUp, TellsAllAs, TellsAs, TellsRow}
 use Rattle.tables.specs.QueryAnswers.{AreReadAs, IsReadAs, TellsFirst, TellsRows}
-use Rattle.tables.specs.Tables.{Tables}
-use Rattle.tables.specs.declared.fault.TableFault.{TableFault}
-use Rattle.tables.proofs.BaseReads.{retold}
-use Rattle.tables.proofs.LookupLemmas.{Finds, FindsAll, FindsGreatest, FindsLeast}
+use Rattle.tables.specs.{Base.BaseValue, Tables.Tables, declared.fault.TableFault.TableFault}
 
 module _ {X Y : Type 0} (image : X → Row) (IsRead : Row → Y → Type 0) (Shows : X → Y → Type 0)
     (read : (x : X) (row : Row) (y : Y) → row ≡ image x → IsRead row y → Shows x y) (xs : List X) where

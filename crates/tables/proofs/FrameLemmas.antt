@@ -4,11 +4,8 @@ use Rattle.tables.proofs.Words.{AllByRecursion, IsTrue, List, Some, Table, Trees
 use Rattle.tables.proofs.Words.{has_got, inl, inr, nat_le, refl, slice_get, subst, sym, ℕ, ◌<◌, ◌==◌, ◌^◌, ◌∙◌, ◌≡◌}
 use Rattle.tables.proofs.Words.{◌≢◌, ◌⊎◌}
 use Rattle.tables.specs.Layout.{AreRows, Holds, HoldsAt, RowOf, cells_of, is_keyed, place_of, rows_of, tree_of}
-use Rattle.tables.specs.Names.{Name, names}
 use Rattle.tables.specs.Schema.{first_version, placed, schema_of, table_for, the_schema, the_version}
-use Rattle.tables.specs.Tables.{Tables}
-use Rattle.tables.specs.Versions.{number_of}
-use Rattle.tables.specs.declared.version.Version.{Version}
+use Rattle.tables.specs.{Names.Name, Names.names, Tables.Tables, Versions.number_of, declared.version.Version.Version}
 use Rattle.tables.specs.Names as name
 use Rattle.tables.specs.declared.version.Version.TheVariants as version
 

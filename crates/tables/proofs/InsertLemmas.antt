@@ -4,23 +4,20 @@ use Rattle.tables.proofs.Words.{None, Null, Option, Order, Reader, Reference, Re
 use Rattle.tables.proofs.Words.{Trees, Value, Values, [], arith, cast, col, cond, day_of, edit_of, everything, false}
 use Rattle.tables.proofs.Words.{length, lit, next_rowid, pos, refl, slice_get, stamp_of, true, unary, understood}
 use Rattle.tables.proofs.Words.{value_rows, ℕ, ℤ, ◌/◌, ◌<◌, ◌^◌, ◌∷◌, ◌≡◌}
+use Rattle.tables.proofs.CarryLemmas.{Makes, Says, Steps, carried}
+use Rattle.tables.proofs.ChangeLemmas.{inserted, raw, raw_says}
+use Rattle.tables.proofs.FrameLemmas.{cells_some, changed, is_current, with_rows}
+use Rattle.tables.proofs.WriteLemmas.{IsIdle, inserts}
 use Rattle.tables.specs.Layout.{RowOf, cells_of, is_keyed, place_of, rows_of, tree_of}
-use Rattle.tables.specs.Names.{Name}
 use Rattle.tables.specs.Schema.{placed, table_of, the_schema, the_version}
 use Rattle.tables.specs.Tables.{CalibrationRow, DepositRow, HoldRow, InstalledRow, Tables, by_kind, name_of}
 use Rattle.tables.specs.Tables.{with_calibration, with_deposit, with_hold, with_identity}
 use Rattle.tables.specs.auxiliary.Steps.{with_first_tally, with_right_alone, with_stamp_alone}
 use Rattle.tables.specs.declared.calibrations.TheConstants.{INSERT_CALIBRATION}
-use Rattle.tables.specs.declared.deposits.TheConstants.{INSERT_DEPOSIT}
-use Rattle.tables.specs.declared.holds.TheConstants.{INSERT_HOLD}
-use Rattle.tables.specs.declared.identities.TheConstants.{INSERT_IDENTITY}
 use Rattle.tables.specs.declared.rights.TheConstants.{INSERT_GROUP_READER, INSERT_READER}
-use Rattle.tables.specs.declared.stamps.TheConstants.{INSERT_STAMP}
-use Rattle.tables.specs.declared.tallies.TheConstants.{FIRST_TALLY}
-use Rattle.tables.proofs.CarryLemmas.{Makes, Says, Steps, carried}
-use Rattle.tables.proofs.ChangeLemmas.{inserted, raw, raw_says}
-use Rattle.tables.proofs.FrameLemmas.{cells_some, changed, is_current, with_rows}
-use Rattle.tables.proofs.WriteLemmas.{IsIdle, inserts}
+use Rattle.tables.specs.{Names.Name, declared.deposits.TheConstants.INSERT_DEPOSIT}
+use Rattle.tables.specs.{declared.holds.TheConstants.INSERT_HOLD, declared.identities.TheConstants.INSERT_IDENTITY}
+use Rattle.tables.specs.{declared.stamps.TheConstants.INSERT_STAMP, declared.tallies.TheConstants.FIRST_TALLY}
 use Rattle.tables.specs.Names as name
 
 either : (b : Bool) (x : Value) → cond b x x ≡ x

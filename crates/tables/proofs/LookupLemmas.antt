@@ -1,6 +1,5 @@
 -- What a query tells of one table: a row that passes its tests, or of these the first in the order of a key.
-use Rattle.std.specs.List.{slice_get}
-use Rattle.std.specs.List.Sorted.{IsNonDecreasingBy}
+use Rattle.std.specs.{List.slice_get, List.Sorted.IsNonDecreasingBy}
 use Rattle.std.proofs.lemmas.List.MinMax.{ranks_by}
 use Rattle.sqlite_sql.proofs.QueryLemmas.{output_cmp_total}
 use Rattle.tables.proofs.Words.{Binary, Bool, Compare, Contains, Eq, Equal, Greater, Int}
@@ -11,16 +10,13 @@ use Rattle.tables.proofs.Words.{eval_all, false, filter, get_or, get_or-map, has
 use Rattle.tables.proofs.Words.{inr, int_cmp, is_lt, length, length-map, lit, map, map-map, op2, ordering_then, output}
 use Rattle.tables.proofs.Words.{output_cmp, page, pos, refl, sorted_far, subst, subst₂, sym, true, understood}
 use Rattle.tables.proofs.Words.{value_cmp, value_cmp-Int, ℕ, ◌&&◌, ◌<◌, ◌∙◌, ◌∷◌, ◌≡◌, ◌≤◌}
-use Rattle.tables.specs.Found.{AreFoundAs, IsFoundAs, IsGreatestAs, IsLeastAs}
-use Rattle.tables.specs.Layout.{Holds, RowOf, cells_of, is_keyed, rows_of, tree_of}
-use Rattle.tables.specs.Names.{Name}
-use Rattle.tables.specs.QueryAnswers.{IsQueryText, TellsFirst, TellsRows}
-use Rattle.tables.specs.Schema.{the_schema, the_version}
-use Rattle.tables.specs.Tables.{Tables}
-use Rattle.tables.proofs.ChangeLemmas.{found_are, raw}
-use Rattle.tables.proofs.FrameLemmas.{cells_some, is_current}
 use Rattle.tables.proofs.ListLemmas.{any_default, has_image, has_permutation, image_has, map_same}
 use Rattle.tables.proofs.ReadLemmas.{answered, no_limit, ordered_by, passes, program_of, query_of, shows}
+use Rattle.tables.proofs.{ChangeLemmas.found_are, ChangeLemmas.raw, FrameLemmas.cells_some, FrameLemmas.is_current}
+use Rattle.tables.specs.Found.{AreFoundAs, IsFoundAs, IsGreatestAs, IsLeastAs}
+use Rattle.tables.specs.Layout.{Holds, RowOf, cells_of, is_keyed, rows_of, tree_of}
+use Rattle.tables.specs.QueryAnswers.{IsQueryText, TellsFirst, TellsRows}
+use Rattle.tables.specs.{Names.Name, Schema.the_schema, Schema.the_version, Tables.Tables}
 
 -- a query over one table, as our schema has its text, with the names of what it shows
 pub record Asks (sql : List ℕ) (n : Name) (tests project : List Term) (names : List (List ℕ))

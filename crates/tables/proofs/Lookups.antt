@@ -1,8 +1,11 @@
 -- What each look-up asks, and what it finds.
 use Rattle.tables.proofs.Words.{Account, Binary, Compare, Ge, Group, Gt, Int, Is, Le, List, Reader, Term, Text, Value}
 use Rattle.tables.proofs.Words.{[], ap₂, codes, col, everything, false, op2, pos, refl, true, understood, ℕ, ℤ, ◌&&◌}
-use Rattle.tables.proofs.Words.{◌∙◌, ◌∷◌, ◌≡◌}
-use Rattle.tables.specs.Layout.{reader_cells}
+use Rattle.tables.proofs.LookupLemmas.{Asks, Finds, FindsAll, FindsGreatest, FindsLeast, all, and_true, equals, falling}
+use Rattle.tables.proofs.LookupLemmas.{finds, greatest, least, one, rising}
+use Rattle.tables.proofs.TestLemmas.{test_above, test_after, test_at_most, test_from, test_is, test_number, test_text}
+use Rattle.tables.proofs.{Words.◌∙◌, Words.◌∷◌, Words.◌≡◌, ChangeLemmas.raw, InsertLemmas.rights_in}
+use Rattle.tables.proofs.{ReadLemmas.no_limit, ReadLemmas.passes, TestLemmas.test_up_to}
 use Rattle.tables.specs.Queries.{holds_at, is_owned, is_owned_by, is_readable_after, is_within, label_of}
 use Rattle.tables.specs.Tables.{ReaderRow, by_kind, is_calibration, is_deposit, is_deposit_of, is_hold, is_identity}
 use Rattle.tables.specs.Tables.{is_reader_row, is_stamp, is_tally_of, name_of, rights_of}
@@ -15,14 +18,7 @@ use Rattle.tables.specs.declared.holds.TheConstants.{GREATEST_HOLD, HOLD, HOLD_A
 use Rattle.tables.specs.declared.identities.TheConstants.{GREATEST_IDENTITY, IDENTITY}
 use Rattle.tables.specs.declared.rights.TheConstants.{IS_GROUP_READER, IS_READER, NEXT_GROUP_READABLE, NEXT_READABLE}
 use Rattle.tables.specs.declared.stamps.TheConstants.{LAST_STAMP, NEXT_STAMP, ORIGIN, STAMP}
-use Rattle.tables.specs.declared.tallies.TheConstants.{TALLY}
-use Rattle.tables.proofs.ChangeLemmas.{raw}
-use Rattle.tables.proofs.InsertLemmas.{rights_in}
-use Rattle.tables.proofs.LookupLemmas.{Asks, Finds, FindsAll, FindsGreatest, FindsLeast, all, and_true, equals, falling}
-use Rattle.tables.proofs.LookupLemmas.{finds, greatest, least, one, rising}
-use Rattle.tables.proofs.ReadLemmas.{no_limit, passes}
-use Rattle.tables.proofs.TestLemmas.{test_above, test_after, test_at_most, test_from, test_is, test_number, test_text}
-use Rattle.tables.proofs.TestLemmas.{test_up_to}
+use Rattle.tables.specs.{Layout.reader_cells, declared.tallies.TheConstants.TALLY}
 use Rattle.tables.specs.Names as name
 
 -- ---- stamps

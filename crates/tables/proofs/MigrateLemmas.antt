@@ -4,29 +4,21 @@ use Rattle.tables.proofs.Words.{IfErr, Index, Int, IsDatabase, IsTrue, List, Non
 use Rattle.tables.proofs.Words.{Some, State, Survives, Trees, Update, [], all_has, ap, arith, automatics, col, created}
 use Rattle.tables.proofs.Words.{everything, false, inl, inr, is_used, lacks_sequence, lit, mode_of, nat_le, next_tree}
 use Rattle.tables.proofs.Words.{pos, refl, runs_as, statement_of, subst, survives_then, sym, true, understood, ℕ, ◌∙◌}
-use Rattle.tables.proofs.Words.{◌∷◌, ◌≡◌, ◌≢◌, ◌⊎◌}
+use Rattle.tables.proofs.CarryLemmas.{Says, did, kept_inside}
+use Rattle.tables.proofs.CreateLemmas.{MakesIn, empty_rows, table_made}
+use Rattle.tables.proofs.InsertLemmas.{cast_int, cast_null, idle}
+use Rattle.tables.proofs.RefusalLemmas.{created_never, failed_as, plain_known, updated_never}
+use Rattle.tables.proofs.{Words.◌∷◌, Words.◌≡◌, Words.◌≢◌, Words.◌⊎◌, CountLemmas.keeps_then, FrameLemmas.at_name}
+use Rattle.tables.proofs.{FrameLemmas.framed, ReadLemmas.no_limit, ReadLemmas.program_of, UpdateLemmas.updates_rows}
+use Rattle.tables.proofs.{UsableLemmas.usable_in_turn, WriteLemmas.plain_mode}
 use Rattle.tables.specs.Layout.{AreRows, HoldsAt, HoldsNoLater, IsDatabaseIn, IsDatabaseOf, IsOnTheWay, IsStored}
 use Rattle.tables.specs.Layout.{cells_of, is_keyed, place_of, rows_of, tree_of, version_cells}
-use Rattle.tables.specs.Migration.{Migrates}
-use Rattle.tables.specs.Names.{Name}
-use Rattle.tables.specs.QueryAnswers.{Looks, StaysUsable}
 use Rattle.tables.specs.Schema.{first_version, schema_of, table_for, the_schema, the_version}
-use Rattle.tables.specs.Tables.{Tables}
 use Rattle.tables.specs.Transaction.{CarriesFrom, CommitsFrom, GoesFrom}
 use Rattle.tables.specs.Versions.{IsFound, IsFoundIn, number_of, tells_taken}
 use Rattle.tables.specs.auxiliary.Creation.{set_version, text_for}
-use Rattle.tables.specs.auxiliary.Steps.{IsLed, LeadsOn}
-use Rattle.tables.specs.declared.version.Version.{Version}
-use Rattle.tables.proofs.CarryLemmas.{Says, did, kept_inside}
-use Rattle.tables.proofs.CountLemmas.{keeps_then}
-use Rattle.tables.proofs.CreateLemmas.{MakesIn, empty_rows, table_made}
-use Rattle.tables.proofs.FrameLemmas.{at_name, framed}
-use Rattle.tables.proofs.InsertLemmas.{cast_int, cast_null, idle}
-use Rattle.tables.proofs.ReadLemmas.{no_limit, program_of}
-use Rattle.tables.proofs.RefusalLemmas.{created_never, failed_as, plain_known, updated_never}
-use Rattle.tables.proofs.UpdateLemmas.{updates_rows}
-use Rattle.tables.proofs.UsableLemmas.{usable_in_turn}
-use Rattle.tables.proofs.WriteLemmas.{plain_mode}
+use Rattle.tables.specs.{Migration.Migrates, Names.Name, QueryAnswers.Looks, QueryAnswers.StaysUsable, Tables.Tables}
+use Rattle.tables.specs.{auxiliary.Steps.IsLed, auxiliary.Steps.LeadsOn, declared.version.Version.Version}
 use Rattle.tables.specs.Names as name
 use Rattle.tables.specs.declared.version.Version.TheVariants as version
 

@@ -8,13 +8,10 @@ use Rattle.tables.proofs.Words.{if_select, if◌then◌else◌, index_named, inl
 use Rattle.tables.proofs.Words.{lacks_sequence, listing_schema, misses_table, option_or, position_from, refl}
 use Rattle.tables.proofs.Words.{sequence_text, state, statement_of, subst, sym, table_defined_by, table_named, true}
 use Rattle.tables.proofs.Words.{understood, view_named, ℕ, ◌++◌, ◌+◌, ◌||◌, ◌∙◌, ◌∷◌, ◌≡◌, ◌⊎◌}
-use Rattle.tables.specs.Names.{Name}
-use Rattle.tables.specs.Schema.{no_schema, table_for}
-use Rattle.tables.specs.Versions.{IsUnderstood}
-use Rattle.tables.specs.auxiliary.Creation.{text_for}
 use Rattle.tables.proofs.BatchLemmas.{InTurn, ran_as}
-use Rattle.tables.proofs.FreeLemmas.{three_false}
-use Rattle.tables.proofs.WriteLemmas.{same_ok, went}
+use Rattle.tables.proofs.{FreeLemmas.three_false, WriteLemmas.same_ok, WriteLemmas.went}
+use Rattle.tables.specs.Schema.{no_schema, table_for}
+use Rattle.tables.specs.{Names.Name, Versions.IsUnderstood, auxiliary.Creation.text_for}
 use Rattle.tables.specs.Names as name
 
 -- what is made of a text that makes a table, by whether a trigger is in the way, and whether an index, or a table or a

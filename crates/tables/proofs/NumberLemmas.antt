@@ -1,17 +1,12 @@
 -- The greatest number of a table's rows, as a query inside a transaction tells it, and a step that takes it.
-use Rattle.std.specs.Prelude.{Contains}
-use Rattle.std.specs.List.{slice_get}
+use Rattle.std.specs.{Prelude.Contains, List.slice_get}
 use Rattle.tables.proofs.Words.{Err, Error, Has, HasCleanDisk, IfOk, Int, List, None, Ok, Option, Result, Row, Some}
 use Rattle.tables.proofs.Words.{State, Trees, [], ap, arith, column, contains_had, get_or, has_contained, inl, inr}
 use Rattle.tables.proofs.Words.{length, pos, refl, sym, unwrap_or, ℕ, ◌<◌, ◌∙◌, ◌∷◌, ◌≡◌, ◌≤◌}
-use Rattle.tables.specs.Changes.{greatest_by}
-use Rattle.tables.specs.Found.{IsGreatestAs}
+use Rattle.tables.proofs.{CountLemmas.chained, CountLemmas.reworded, LookupLemmas.FindsGreatest}
 use Rattle.tables.specs.Layout.{Holds, IsDatabaseOf}
 use Rattle.tables.specs.QueryAnswers.{IsReadAs, TellsNumber, TellsRows}
-use Rattle.tables.specs.Tables.{Tables}
-use Rattle.tables.specs.Transaction.{Carries}
-use Rattle.tables.proofs.CountLemmas.{chained, reworded}
-use Rattle.tables.proofs.LookupLemmas.{FindsGreatest}
+use Rattle.tables.specs.{Changes.greatest_by, Found.IsGreatestAs, Tables.Tables, Transaction.Carries}
 
 -- ---- what an answer begins with
 

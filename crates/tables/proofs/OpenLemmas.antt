@@ -10,19 +10,13 @@ use Rattle.tables.proofs.Words.{cases_Bool, codes, col, command_of, compiled, ev
 use Rattle.tables.proofs.Words.{inr, length, listing_schema, meaning, nat_le, one_permutation, planned, pos}
 use Rattle.tables.proofs.Words.{reads_listing, refl, returning, small, store_error, subst, sym, true, understood}
 use Rattle.tables.proofs.Words.{with_command, ℕ, ◌+◌, ◌↔◌, ◌∙◌, ◌∷◌, ◌≡◌, ◌≢◌, ◌≤◌}
+use Rattle.tables.proofs.ReadLemmas.{answered, no_limit, passes, program_of, shows}
+use Rattle.tables.proofs.{AskLemmas.fails_so, ChangeLemmas.found_are, UsableLemmas.survivor_usable, WriteLemmas.before}
 use Rattle.tables.specs.Layout.{AreRows, IsDatabaseIn, version_cells}
 use Rattle.tables.specs.QueryAnswers.{Answers, IsPlainIn, Looks, StaysUsable}
-use Rattle.tables.specs.Schema.{schema_of}
-use Rattle.tables.specs.Tables.{Tables}
 use Rattle.tables.specs.Versions.{HasFailed, IsKnownAs, IsRefused, IsUnanswered, IsUnderstood, IsUnfit, IsUnprepared}
 use Rattle.tables.specs.Versions.{IsVersion, LooksForeign, TellsVersion, number_of, version_query}
-use Rattle.tables.specs.auxiliary.Told.{TellsColumns}
-use Rattle.tables.specs.declared.version.Version.{Version}
-use Rattle.tables.proofs.AskLemmas.{fails_so}
-use Rattle.tables.proofs.ChangeLemmas.{found_are}
-use Rattle.tables.proofs.ReadLemmas.{answered, no_limit, passes, program_of, shows}
-use Rattle.tables.proofs.UsableLemmas.{survivor_usable}
-use Rattle.tables.proofs.WriteLemmas.{before}
+use Rattle.tables.specs.{Schema.schema_of, Tables.Tables, auxiliary.Told.TellsColumns, declared.version.Version.Version}
 use Rattle.sqlite.specs.declared.error.ErrorCode.TheVariants as code
 use Rattle.tables.specs.declared.version.Version.TheVariants as version
 use Rattle.tables.specs.Names as name

@@ -2,12 +2,10 @@
 use Rattle.book.specs.declared.values.Hold.{Hold}
 use Rattle.tables.proofs.Words.{Int, List, None, Option, Row, Some, Text, ap, ap₂, column, pos, refl, sym, ℕ, ℤ, ◌∙◌}
 use Rattle.tables.proofs.Words.{◌≡◌}
-use Rattle.tables.specs.Layout.{token_cell}
 use Rattle.tables.specs.Queries.{ShowsCalibration, ShowsHold, ShowsLast}
-use Rattle.tables.specs.Tables.{CalibrationRow, HoldRow, StampRow}
 use Rattle.tables.specs.auxiliary.Shown.{calibration_shown, hold_shown, last_shown}
-use Rattle.tables.specs.declared.rows.LastStamp.{LastStamp}
-use Rattle.tables.specs.declared.rows.NumberedCalibration.{NumberedCalibration}
+use Rattle.tables.specs.{Layout.token_cell, Tables.CalibrationRow, Tables.HoldRow, Tables.StampRow}
+use Rattle.tables.specs.{declared.rows.LastStamp.LastStamp, declared.rows.NumberedCalibration.NumberedCalibration}
 
 pub number_of : (row shown : Row) (at n m : ℕ) → row ≡ shown → column row at ≡ Int (pos n)
     → column shown at ≡ Int (pos m) → n ≡ m

@@ -4,8 +4,7 @@ use Rattle.tables.proofs.Words.{Answers, Bool, Int, IsAnswer, IsPermutation, IsP
 use Rattle.tables.proofs.Words.{None, Null, Output, Program, Query, Row, Schema, Term, Trees, [], ap, cond, end}
 use Rattle.tables.proofs.Words.{eval_all, false, filter, flat_map, holds, inner, list_all, lit, map, map-map, nat_le}
 use Rattle.tables.proofs.Words.{negsuc, output, output_cmp, page, pos, refl, slice_get, subst, sym, true, ℕ, ◌-◌, ◌^◌}
-use Rattle.tables.proofs.Words.{◌∙◌, ◌∷◌, ◌≡◌}
-use Rattle.tables.proofs.ListLemmas.{flat_map_tested}
+use Rattle.tables.proofs.{Words.◌∙◌, Words.◌∷◌, Words.◌≡◌, ListLemmas.flat_map_tested}
 
 nothing_given : (t : ℕ) → given_at [] t ≡ None
 nothing_given t = elim (nat_le (2 ^ 31) t) as (λ b. cond b (slice_get {X = List Row} [] (t - 2 ^ 31)) None ≡ None)

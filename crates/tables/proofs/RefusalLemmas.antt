@@ -12,16 +12,14 @@ use Rattle.tables.proofs.Words.{alter_error, ap, automatics, cases_Bool, command
 use Rattle.tables.proofs.Words.{everything, false, inl, inr, is_used, lacks_sequence, list_any, map, mode_of, next_tree}
 use Rattle.tables.proofs.Words.{refl, shows_rows, slice_get, stamped, state, statement_of, store_error, subst, subst₂}
 use Rattle.tables.proofs.Words.{sym, table_defined_by, timed, true, understood, ℕ, ◌++◌, ◌∙◌, ◌∷◌, ◌≡◌, ◌⊎◌}
-use Rattle.tables.specs.Names.{Name, names}
-use Rattle.tables.specs.Schema.{meta, placed, table_for, the_schema}
-use Rattle.tables.specs.Versions.{IsInTheWay, IsUnderstood, takes_index, takes_name, tells_taken}
-use Rattle.tables.specs.auxiliary.Creation.{insert_version, joined, make_all, text_for}
 use Rattle.tables.proofs.BatchLemmas.{AreCut, Goes, Turns, are_cut, cut_last, ended, in_turn, turn}
 use Rattle.tables.proofs.CreateLemmas.{MakesIn, begun, makes_in, makes_table, schema_with, version_terms}
-use Rattle.tables.proofs.FillLemmas.{fill_facts, fills}
 use Rattle.tables.proofs.FreeLemmas.{AreFree, HasMeta, clashes, lacks_still, made_meta, stay_free, still_meta}
 use Rattle.tables.proofs.NameLemmas.{makes, names_free}
-use Rattle.tables.proofs.WriteLemmas.{plain_mode}
+use Rattle.tables.proofs.{FillLemmas.fill_facts, FillLemmas.fills, WriteLemmas.plain_mode}
+use Rattle.tables.specs.Versions.{IsInTheWay, IsUnderstood, takes_index, takes_name, tells_taken}
+use Rattle.tables.specs.auxiliary.Creation.{insert_version, joined, make_all, text_for}
+use Rattle.tables.specs.{Names.Name, Names.names, Schema.meta, Schema.placed, Schema.table_for, Schema.the_schema}
 use Rattle.sqlite_catalog.specs.declared.error.Refusal as alter
 use Rattle.sqlite_catalog.specs.declared.error.Refusal.TheVariants as why
 

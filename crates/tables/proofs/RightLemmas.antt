@@ -1,18 +1,13 @@
 -- The rights of accounts and of groups, taken back and given.
 use Rattle.tables.proofs.Words.{Account, Command, Delete, Group, Int, List, Reader, Text, [], col, everything, false}
 use Rattle.tables.proofs.Words.{pos, refl, understood, ℕ, ◌∷◌, ◌≡◌}
-use Rattle.tables.specs.Layout.{place_of, reader_cells, tree_of}
-use Rattle.tables.specs.Names.{Name}
-use Rattle.tables.specs.Schema.{the_schema}
-use Rattle.tables.specs.Tables.{Tables, by_kind, is_reader_row, name_of, with_right, without_right}
-use Rattle.tables.specs.auxiliary.Steps.{with_right_alone}
-use Rattle.tables.specs.declared.rights.TheConstants.{DELETE_GROUP_READER, DELETE_READER}
 use Rattle.tables.proofs.CarryLemmas.{Makes, Says, Steps, carried}
-use Rattle.tables.proofs.FrameLemmas.{changed}
-use Rattle.tables.proofs.InsertLemmas.{idle, rights_in}
-use Rattle.tables.proofs.Lookups.{right_test, right_tests}
-use Rattle.tables.proofs.ReadLemmas.{no_limit, program_of}
-use Rattle.tables.proofs.UpdateLemmas.{deletes_rows}
+use Rattle.tables.proofs.{FrameLemmas.changed, InsertLemmas.idle, InsertLemmas.rights_in, Lookups.right_test}
+use Rattle.tables.proofs.{Lookups.right_tests, ReadLemmas.no_limit, ReadLemmas.program_of, UpdateLemmas.deletes_rows}
+use Rattle.tables.specs.Layout.{place_of, reader_cells, tree_of}
+use Rattle.tables.specs.Tables.{Tables, by_kind, is_reader_row, name_of, with_right, without_right}
+use Rattle.tables.specs.declared.rights.TheConstants.{DELETE_GROUP_READER, DELETE_READER}
+use Rattle.tables.specs.{Names.Name, Schema.the_schema, auxiliary.Steps.with_right_alone}
 use Rattle.tables.specs.Names as name
 
 abbrev right_delete : Name → Command

@@ -1,7 +1,6 @@
 -- Trees that list a version of our schema list no other.
 use Rattle.std.proofs.Common.{unwrap_or}
-use Rattle.std.specs.List.{find, slice_get}
-use Rattle.std.specs.Str.{bytes_eq}
+use Rattle.std.specs.{List.find, List.slice_get, Str.bytes_eq}
 use Rattle.sqlite_trees.specs.Objects.{catalog_tree}
 use Rattle.sqlite_schema.specs.declared.schema.View.{View}
 use Rattle.tables.proofs.Words.{AllByRecursion, AllZip, AreListed, Blob, Database, Err, Has, Index, Int, IsDatabase}
@@ -11,9 +10,7 @@ use Rattle.tables.proofs.Words.{is_table_row, is_view_row, length, list_all, nat
 use Rattle.tables.proofs.Words.{test_has, true, zero, ℕ, ◌+◌, ◌∙◌, ◌∷◌, ◌≡◌}
 use Rattle.tables.specs.Layout.{IsDatabaseIn, IsDatabaseOf, IsStored, IsStoredIn}
 use Rattle.tables.specs.Schema.{meta, schema_of, the_schema}
-use Rattle.tables.specs.Tables.{Tables}
-use Rattle.tables.specs.Versions.{number_of}
-use Rattle.tables.specs.declared.version.Version.{Version}
+use Rattle.tables.specs.{Tables.Tables, Versions.number_of, declared.version.Version.Version}
 use Rattle.tables.specs.declared.version.Version.TheVariants as version
 
 -- lists that stand for the same rows, where a row stands for one thing alone

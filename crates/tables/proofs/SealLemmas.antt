@@ -6,21 +6,16 @@ use Rattle.tables.proofs.Words.{Term, Text, Trees, Update, Value, [], all_has, a
 use Rattle.tables.proofs.Words.{binary, cases_lt, cast, cast_row, col, cond, drop, everything, false, filter, inl, inr}
 use Rattle.tables.proofs.Words.{is_of, length, lit, lt-ltb, map, op2, pos, refl, subst, sym, true, unary, understood}
 use Rattle.tables.proofs.Words.{unwrap_or, value_cmp, ℕ, ◌&&◌, ◌+◌, ◌<◌, ◌^◌, ◌∙◌, ◌∷◌, ◌≡◌}
-use Rattle.tables.specs.Layout.{Holds, IsDatabaseOf, place_of, stamp_cells, tally_cells, tree_of}
-use Rattle.tables.specs.Schema.{tally, the_schema}
-use Rattle.tables.specs.Tables.{StampRow, Tables, TallyRow, is_stamp, is_tally_of, raised_row, with_token}
-use Rattle.tables.specs.auxiliary.Steps.{with_raised}
-use Rattle.tables.specs.declared.stamps.TheConstants.{SET_TOKEN}
-use Rattle.tables.specs.declared.tallies.TheConstants.{RAISE_TALLY}
 use Rattle.tables.proofs.CarryLemmas.{Makes, Says, Steps, carried, did}
-use Rattle.tables.proofs.ChangeLemmas.{raw}
-use Rattle.tables.proofs.FrameLemmas.{changed, placed_table}
 use Rattle.tables.proofs.InsertLemmas.{cast_int, cast_null, idle}
-use Rattle.tables.proofs.LookupLemmas.{and_true, equals}
 use Rattle.tables.proofs.ReadLemmas.{no_limit, passes, program_of, shows}
-use Rattle.tables.proofs.TestLemmas.{test_number, test_text}
 use Rattle.tables.proofs.UpdateLemmas.{updates_count, updates_rows, updates_typed}
-use Rattle.tables.proofs.WriteLemmas.{plain_mode}
+use Rattle.tables.proofs.{ChangeLemmas.raw, FrameLemmas.changed, FrameLemmas.placed_table, LookupLemmas.and_true}
+use Rattle.tables.proofs.{LookupLemmas.equals, TestLemmas.test_number, TestLemmas.test_text, WriteLemmas.plain_mode}
+use Rattle.tables.specs.Layout.{Holds, IsDatabaseOf, place_of, stamp_cells, tally_cells, tree_of}
+use Rattle.tables.specs.Tables.{StampRow, Tables, TallyRow, is_stamp, is_tally_of, raised_row, with_token}
+use Rattle.tables.specs.{Schema.tally, Schema.the_schema, auxiliary.Steps.with_raised}
+use Rattle.tables.specs.{declared.stamps.TheConstants.SET_TOKEN, declared.tallies.TheConstants.RAISE_TALLY}
 use Rattle.std.specs.Float.Ieee
 use Rattle.tables.specs.Names as name
 

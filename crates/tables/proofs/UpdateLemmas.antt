@@ -1,17 +1,16 @@
 -- UPDATE and DELETE in one table, in terms of what its rows say.
 use Rattle.sqlite_schema.specs.declared.schema.Constraint.TheVariants.{Datatype}
-use Rattle.sqlite_rules.proofs.RuleLemmas.{keeps_at}
-use Rattle.sqlite_rules.proofs.TableLemmas.{put_all_adds}
+use Rattle.sqlite_rules.proofs.{RuleLemmas.keeps_at, TableLemmas.put_all_adds}
 use Rattle.tables.proofs.Words.{Answers, Bool, Column, Database, Delete, Does, Given, Has, IsPermutation}
 use Rattle.tables.proofs.Words.{IsPermutation-map, List, None, Ok, Option, Order, Reference, Row, Schema, Some, Table}
 use Rattle.tables.proofs.Words.{Tally, Term, Trees, Update, Value, [], and_parts, ap, are_fresh, are_typed, cast_row}
 use Rattle.tables.proofs.Words.{col, cond, drop, edit_of, filter, has_got, have_rowids, id_in, ids_of, length}
 use Rattle.tables.proofs.Words.{length-map, length_permutation, map, map-map, not, put_all, refl, rowid, slice_get}
 use Rattle.tables.proofs.Words.{subst, sym, true, without_all, ℕ, ℤ, ◌∙◌, ◌∷◌, ◌≡◌, ◌≢◌}
-use Rattle.tables.specs.Layout.{AreRows, said}
 use Rattle.tables.proofs.ChangeLemmas.{changed_there, deleted, found_are, numbered_given, raw, updated}
 use Rattle.tables.proofs.ReadLemmas.{answered, no_limit, passes, program_of, shows}
 use Rattle.tables.proofs.WriteLemmas.{IsIdle, Makes as MakesEdit, OthersHold, deletes, its_table, plain_mode, updates}
+use Rattle.tables.specs.Layout.{AreRows, said}
 
 module _ {X : Type 0} (cells : X → Row) (some : (x : X) → cells x ≢ []) (limit : Option ℕ) (params : Row)
     (schema : Schema) (db : Trees) (text : List ℕ) (at : ℕ) (idle : IsIdle schema)

@@ -1,7 +1,6 @@
 -- What INSERT makes of a table in any schema, and UPDATE and DELETE in one whose references have no action.
 use Rattle.std.specs.List.{flat_map}
-use Rattle.sqlite_schema.specs.declared.schema.Action.TheVariants.{NoAction}
-use Rattle.sqlite_schema.specs.declared.schema.Keys.TheVariants.{Enforced}
+use Rattle.sqlite_schema.specs.{declared.schema.Action.TheVariants.NoAction, declared.schema.Keys.TheVariants.Enforced}
 use Rattle.sqlite_rules.specs.Action.{deed_for, pairs, work_by, work_for, works}
 use Rattle.sqlite_rules.specs.declared.action.Deed.{Deed}
 use Rattle.tables.proofs.Words.{AllByRecursion, Answers, Applies, AtPlace, Bool, Chosen, Column, Command, Database}

@@ -2,11 +2,8 @@
 use Rattle.std.specs.Prelude.{◌≡◌, ℕ, false, IsTrue}
 use Rattle.std.specs.Coded.{Coded, code_by, coded×, coded_ℕ}
 use Rattle.std.proofs.Common.{refl}
-use Rattle.sqlite.specs.Held.{Held, held_code, state}
-use Rattle.sqlite.specs.Effect.{IsDatabase}
-use Rattle.sqlite.specs.State.{State, HasCleanDisk}
-use Rattle.sqlite_trees.specs.Tree.{Trees}
-use Rattle.sqlite_trees.specs.declared.store.Store.{Ghosts}
+use Rattle.sqlite.specs.{Held.Held, Held.held_code, Held.state, Effect.IsDatabase, State.State, State.HasCleanDisk}
+use Rattle.sqlite_trees.specs.{Tree.Trees, declared.store.Store.Ghosts}
 use Rattle.tables.specs.Tables.{Tables}
 pub use Rattle.tables.specs.Layout.{IsStored, IsDatabaseOf}
 

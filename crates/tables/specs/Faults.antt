@@ -3,10 +3,9 @@ use Rattle.sqlite.specs.declared.error.Error.{Error}
 use Rattle.sqlite.specs.declared.error.Error.TheVariants.{SqliteFailure, SqlInputError}
 use Rattle.sqlite.specs.declared.error.ErrorCode.TheVariants as code
 use Rattle.tables.specs.declared.fault.TableFault.{TableFault}
+use Rattle.tables.specs.{declared.fault.OpenFault.OpenFault, declared.fault.Task.Task}
 use Rattle.tables.specs.declared.fault.TableFault.TheVariants as table
-use Rattle.tables.specs.declared.fault.OpenFault.{OpenFault}
 use Rattle.tables.specs.declared.fault.OpenFault.TheVariants as opening
-use Rattle.tables.specs.declared.fault.Task.{Task}
 use Rattle.tables.specs.declared.fault.Task.TheVariants as task
 use Rattle.book.specs.declared.fault.StoreFault.{StoreFault}
 use Rattle.book.specs.declared.fault.StoreFault.TheVariants.{Memory, Database, NotOurs}

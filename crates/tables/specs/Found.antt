@@ -1,7 +1,6 @@
 -- What a look-up in rows says, whatever their order.
 use Rattle.std.specs.Prelude.{◌≡◌, ℕ, ◌≤◌, Bool, true, false, List, map, filter, Option, Some, None, Contains}
-use Rattle.std.specs.Prelude.{IsPermutation}
-use Rattle.std.specs.List.Sorted.{IsNonDecreasingBy}
+use Rattle.std.specs.{Prelude.IsPermutation, List.Sorted.IsNonDecreasingBy}
 
 -- none passes the test, or this is what one shows that does
 abbrev pub IsFoundAs : {X Y : Type 0} → (X → Y → Type 0) → (X → Bool) → List X → Option Y → Type 0

@@ -3,18 +3,15 @@
 use Rattle.std.specs.Prelude.{◌≡◌, ◌<◌, ◌^◌, ℕ, pos, Bool, true, false, List, [], ◌∷◌, map, filter, length, drop}
 use Rattle.std.specs.Prelude.{Option, Some, None, IsPermutation, IsTrue, nat_le, nat_lt}
 use Rattle.std.specs.List.{AllByRecursion}
-use Rattle.sqlite_value.specs.declared.value.Value.{Value}
 use Rattle.sqlite_value.specs.declared.value.Value.TheVariants.{Null, Int, Text, Blob}
-use Rattle.sqlite_value.specs.Order.{Row}
-use Rattle.sqlite_trees.specs.declared.store.Shape.TheVariants.{Table}
-use Rattle.sqlite_trees.specs.View.{IsShaped}
-use Rattle.sqlite_trees.specs.Tree.{Trees}
+use Rattle.sqlite_value.specs.{declared.value.Value.Value, Order.Row}
+use Rattle.sqlite_trees.specs.{declared.store.Shape.TheVariants.Table, View.IsShaped, Tree.Trees}
 use Rattle.sqlite_catalog.specs.Listing.{IsSound}
 use Rattle.sqlite.specs.Effect.{Database}
-use Rattle.tables.specs.Names.{Name, names}
+use Rattle.tables.specs.{Names.Name, Names.names, Schema.first_version, Schema.schema_of, Schema.the_schema}
+use Rattle.tables.specs.{Schema.the_version, Tables.StampRow, Tables.CalibrationRow, Tables.HoldRow, Tables.DepositRow}
+use Rattle.tables.specs.{Tables.ReaderRow, Tables.TallyRow, Tables.InstalledRow, Tables.Tables}
 use Rattle.tables.specs.Names as name
-use Rattle.tables.specs.Schema.{first_version, schema_of, the_schema, the_version}
-use Rattle.tables.specs.Tables.{StampRow, CalibrationRow, HoldRow, DepositRow, ReaderRow, TallyRow, InstalledRow, Tables}
 
 abbrev pub token_cell : Option (List ℕ) → Value
 token_cell None = Null

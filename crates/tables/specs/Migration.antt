@@ -2,11 +2,8 @@
 use Rattle.std.specs.Prelude.{◌≡◌, ◌⊎◌, Result, OnOk, OnErr, IsTrue}
 use Rattle.sqlite_trees.specs.Tree.{Trees}
 use Rattle.sqlite.specs.State.{State, HasCleanDisk}
-use Rattle.tables.specs.Layout.{IsStored}
-use Rattle.tables.specs.QueryAnswers.{Looks, StaysUsable}
-use Rattle.tables.specs.Tables.{Tables}
-use Rattle.tables.specs.Versions.{IsFound, IsFoundIn, number_of}
-use Rattle.tables.specs.declared.version.Version.{Version}
+use Rattle.tables.specs.{Layout.IsStored, QueryAnswers.Looks, QueryAnswers.StaysUsable, Tables.Tables, Versions.IsFound}
+use Rattle.tables.specs.{Versions.IsFoundIn, Versions.number_of, declared.version.Version.Version}
 
 pub record Migrates {E : Type 0} (old new : State) (result : Result (Unit {0}) E) : Type 0 where
   pub clean : HasCleanDisk new → HasCleanDisk old

@@ -4,24 +4,16 @@ use Rattle.std.specs.Prelude.{nat_le, nat_lt, bytes_eq, String, string_bytes}
 use Rattle.std.specs.declared.alloc.Global.{Global}
 use Rattle.sqlite_value.specs.Order.{Row}
 use Rattle.sqlite.specs.Held.{state}
-use Rattle.sqlite_trees.specs.Tree.{Trees}
-use Rattle.sqlite_trees.specs.declared.store.Store.{Ghosts}
+use Rattle.sqlite_trees.specs.{Tree.Trees, declared.store.Store.Ghosts}
 use Rattle.tables.specs.QueryAnswers.{IsQueryText, StaysUsable, TellsFirst, TellsRows, IsReadAs, AreReadAs}
-use Rattle.tables.specs.Changes.{IsCounted}
-use Rattle.tables.specs.Layout.{Holds}
 use Rattle.tables.specs.Tables.{Tables, StampRow, CalibrationRow, HoldRow, TallyRow, DepositRow, ReaderRow}
-use Rattle.tables.specs.Tables.{InstalledRow}
 use Rattle.tables.specs.Base.{BaseValue, IsHonest, IsOpen, Keeps, Recovers}
-use Rattle.tables.specs.declared.fault.TableFault.{TableFault}
-use Rattle.tables.specs.declared.rows.LastStamp.{LastStamp}
-use Rattle.tables.specs.declared.rows.NumberedCalibration.{NumberedCalibration}
-use Rattle.book.specs.declared.rows.Stamp.{Stamp}
-use Rattle.book.specs.declared.rows.Deposit.{Deposit}
+use Rattle.tables.specs.{Changes.IsCounted, Layout.Holds, Tables.InstalledRow, declared.fault.TableFault.TableFault}
+use Rattle.tables.specs.{declared.rows.LastStamp.LastStamp, declared.rows.NumberedCalibration.NumberedCalibration}
 use Rattle.book.specs.declared.rows.IdentityRow.{IdentityRow}
-use Rattle.book.specs.declared.values.Hold.{Hold}
+use Rattle.book.specs.{declared.rows.Stamp.Stamp, declared.rows.Deposit.Deposit, declared.values.Hold.Hold}
 pub use Rattle.book.specs.Values.{stamp_view, deposit_view, identity_view}
-use Rattle.tables.specs.declared.rows.Label.{Label}
-use Rattle.tables.specs.declared.rows.Origin.{Origin}
+use Rattle.tables.specs.{declared.rows.Label.Label, declared.rows.Origin.Origin}
 
 -- a look-up leaves what the tables are, what a crash may leave, and a connection that is as usable as it was
 pub record OnlyReads {S : Type 0} (g : Ghosts S) (old new : BaseValue S) : Type 0 where

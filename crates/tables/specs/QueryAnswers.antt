@@ -1,18 +1,14 @@
 -- What a query tells, asked in a transaction of its own that is undone.
 use Rattle.std.specs.Prelude.{◌≡◌, ◌⊎◌, ℕ, pos, ◌≤◌, false, List, [], ◌∷◌, IsTrue, Option, None, Some, Ok, Result}
-use Rattle.std.specs.Prelude.{OnOk, unwrap_or}
-use Rattle.std.specs.List.{slice_get}
+use Rattle.std.specs.{Prelude.OnOk, Prelude.unwrap_or, List.slice_get}
 use Rattle.sqlite_disk.specs.Disk.{MoreFaults}
-use Rattle.sqlite_value.specs.declared.value.Value.TheVariants.{Int}
-use Rattle.sqlite_value.specs.Order.{Row, column}
+use Rattle.sqlite_value.specs.{declared.value.Value.TheVariants.Int, Order.Row, Order.column}
 use Rattle.sqlite_trees.specs.Tree.{Trees}
 use Rattle.sqlite_schema.specs.declared.schema.Schema.{Schema}
 use Rattle.sqlite_resolve.specs.declared.compiled.Compiled.{Compiled}
-use Rattle.sqlite.specs.Effect.{Database, Reads}
-use Rattle.sqlite.specs.Given.{IsPlain}
 use Rattle.sqlite.specs.Listing.{understood, reads_listing, IsSourceOf}
 use Rattle.sqlite.specs.State.{State, HasCleanDisk, Survives, KeepsCommit}
-use Rattle.sqlite.specs.declared.error.Error.{Error}
+use Rattle.sqlite.specs.{Effect.Database, Effect.Reads, Given.IsPlain, declared.error.Error.Error}
 use Rattle.sqlite.proofs.Callers.{command_of}
 use Rattle.tables.specs.Schema.{the_schema}
 

@@ -1,16 +1,11 @@
 -- The schema: each table as the text that makes it (Making.antt) defines it.
 use Rattle.std.specs.Prelude.{true, false, ℕ, List, [], ◌∷◌, map, filter, nat_le, codes, Option, Some, None}
-use Rattle.sqlite_value.specs.declared.value.Value.TheVariants.{Null}
 use Rattle.sqlite_value.specs.declared.keys.Collation.TheVariants.{Binary}
-use Rattle.sqlite_value.specs.declared.keys.Order.{Order}
-use Rattle.sqlite_value.specs.Keys.{plain}
-use Rattle.sqlite_schema.specs.declared.schema.Kind.{Kind}
+use Rattle.sqlite_value.specs.{declared.value.Value.TheVariants.Null, declared.keys.Order.Order, Keys.plain}
 use Rattle.sqlite_schema.specs.declared.schema.Kind.TheVariants.{Integer, Text, Blob}
-use Rattle.sqlite_schema.specs.declared.schema.Action.TheVariants.{NoAction}
-use Rattle.sqlite_schema.specs.declared.schema.Column.{Column}
-use Rattle.sqlite_schema.specs.declared.schema.Reference.{Reference}
-use Rattle.sqlite_schema.specs.declared.schema.Table.{Table}
-use Rattle.sqlite_schema.specs.declared.schema.Schema.{Schema}
+use Rattle.sqlite_schema.specs.{declared.schema.Kind.Kind, declared.schema.Action.TheVariants.NoAction}
+use Rattle.sqlite_schema.specs.{declared.schema.Column.Column, declared.schema.Reference.Reference}
+use Rattle.sqlite_schema.specs.{declared.schema.Table.Table, declared.schema.Schema.Schema}
 use Rattle.sqlite_catalog.specs.Change.{created}
 use Rattle.tables.specs.Names.{Name, names}
 use Rattle.tables.specs.Names as name

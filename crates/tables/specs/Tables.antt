@@ -2,8 +2,7 @@
 -- takes. The order of a list says nothing. Moments and offsets are whole microseconds from 1970-01-01T00:00:00Z, days
 -- whole days from it, and texts, object identifiers and blobs are their octets.
 use Rattle.std.specs.Prelude.{ℕ, ◌+◌, ℤ, Bool, not, ◌&&◌, ◌==◌, if◌then◌else◌, List, [], ◌∷◌, map, filter, bytes_eq}
-use Rattle.std.specs.Prelude.{Some}
-use Rattle.std.specs.List.{list_any}
+use Rattle.std.specs.{Prelude.Some, List.list_any}
 use Rattle.book.specs.Readers.{Reader, Account, Group}
 pub use Rattle.book.specs.Rows.{StampRow, DepositRow, InstalledRow}
 

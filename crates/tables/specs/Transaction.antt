@@ -1,12 +1,9 @@
 -- What a statement inside a transaction does to the tables, and what a call that commits does.
 use Rattle.std.specs.Prelude.{◌≡◌, ◌⊎◌, Result, OnOk, OnErr, IsTrue}
 use Rattle.sqlite_trees.specs.Tree.{Trees}
-use Rattle.sqlite.specs.declared.error.Error.{Error}
-use Rattle.sqlite.specs.Effect.{Database, IsDatabase}
 use Rattle.sqlite.specs.State.{State, HasCleanDisk, Survives, KeepsCommit}
-use Rattle.tables.specs.QueryAnswers.{StaysUsable}
-use Rattle.tables.specs.Tables.{Tables}
-use Rattle.tables.specs.Layout.{IsStored, IsDatabaseOf}
+use Rattle.sqlite.specs.{declared.error.Error.Error, Effect.Database, Effect.IsDatabase}
+use Rattle.tables.specs.{QueryAnswers.StaysUsable, Tables.Tables, Layout.IsStored, Layout.IsDatabaseOf}
 
 -- by what is known of the database and of the connection before
 module _ (Before : Tables → Database → Type 0) (Known : Type 0) where

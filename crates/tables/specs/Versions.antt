@@ -2,29 +2,20 @@
 use Rattle.std.specs.Prelude.{◌≡◌, ◌⊎◌, ℕ, pos, Bool, true, false, List, [], ◌∷◌, Result, Ok, Err, ⊤, IsTrue}
 use Rattle.std.specs.Prelude.{Option, None, Some, ◌≢◌, ◌≤◌, length}
 use Rattle.std.specs.List.{list_any}
-use Rattle.sqlite_value.specs.declared.value.Value.TheVariants.{Int}
-use Rattle.sqlite_value.specs.Order.{Row, column}
-use Rattle.sqlite_resolve.specs.declared.compiled.Compiled.{Compiled}
-use Rattle.sqlite_resolve.specs.declared.error.CompileError.{CompileError}
+use Rattle.sqlite_value.specs.{declared.value.Value.TheVariants.Int, Order.Row, Order.column}
+use Rattle.sqlite_resolve.specs.{declared.compiled.Compiled.Compiled, declared.error.CompileError.CompileError}
 use Rattle.sqlite_schema.specs.declared.schema.Schema.{Schema}
 use Rattle.sqlite_catalog.specs.Change.{is_used}
-use Rattle.sqlite.specs.Does.{lacks_sequence}
-use Rattle.sqlite_disk.specs.Disk.{MoreFaults}
-use Rattle.sqlite.specs.Effect.{Database, IsDatabase, RefusesToRead}
 use Rattle.sqlite.specs.Listing.{understood, reads_listing, IsSourceOf}
-use Rattle.sqlite.specs.State.{State}
-use Rattle.sqlite.specs.declared.error.Error.{Error}
 use Rattle.sqlite.specs.declared.error.Error.TheVariants.{SqliteFailure, SqlInputError}
-use Rattle.sqlite.specs.declared.error.ErrorCode.TheVariants.{NameTaken}
+use Rattle.sqlite.specs.{Does.lacks_sequence, Effect.Database, Effect.IsDatabase, Effect.RefusesToRead, State.State}
+use Rattle.sqlite.specs.{declared.error.Error.Error, declared.error.ErrorCode.TheVariants.NameTaken}
+use Rattle.sqlite_disk.specs.Disk.{MoreFaults}
 use Rattle.book.specs.History.{Entry}
-use Rattle.tables.specs.QueryAnswers.{Answers}
-use Rattle.tables.specs.Transaction.{CarriesFrom, CommitsFrom}
-use Rattle.tables.specs.Changes.{applied_all}
-use Rattle.tables.specs.Schema.{no_schema, the_schema, the_version}
-use Rattle.tables.specs.Tables.{Tables, no_rows}
-use Rattle.tables.specs.Layout.{IsDatabaseOf, IsDatabaseIn}
 use Rattle.tables.specs.declared.version.TheConstants.{ALL_COLUMNS, SECOND_COLUMNS, FIRST_COLUMNS, VERSION}
-use Rattle.tables.specs.declared.version.Version.{Version}
+use Rattle.tables.specs.{QueryAnswers.Answers, Transaction.CarriesFrom, Transaction.CommitsFrom, Changes.applied_all}
+use Rattle.tables.specs.{Schema.no_schema, Schema.the_schema, Schema.the_version, Tables.Tables, Tables.no_rows}
+use Rattle.tables.specs.{Layout.IsDatabaseOf, Layout.IsDatabaseIn, declared.version.Version.Version}
 use Rattle.tables.specs.declared.version.Version.TheVariants as version
 
 -- a query over each table and each column of the version of now

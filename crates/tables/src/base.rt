@@ -1,17 +1,13 @@
 //! A connection to the tables' database, with the count of its faults.
 
 ghost use Rattle.std.specs.Prelude.{◌≡◌, ◌⊎◌, ◌<◌, length, false, Ok, Err, IfOk, IfErr, OnOk, OnErr};
-ghost use Rattle.sqlite.specs.Held.{state};
-ghost use Rattle.sqlite.specs.State.{HasCleanDisk};
+ghost use Rattle.sqlite.specs.{Held.state, State.HasCleanDisk};
 ghost use Rattle.book.specs.Entries.{entries_view};
-ghost use Rattle.tables.specs.QueryAnswers.{Looks, StaysUsable};
-ghost use Rattle.tables.specs.Schema.{no_schema};
 ghost use Rattle.tables.specs.Versions.{IsFound, LooksOurs, LooksForeign, Creates, IsInTheWay, IsUntold, takes_name};
-ghost use Rattle.sqlite_trees.specs.Tree.{Trees};
-ghost use Rattle.tables.specs.Tables.{Tables, no_rows};
 ghost use Rattle.tables.specs.Base.{IsHonest, IsOpen, Keeps, Recovers, IsStored};
-ghost use Rattle.tables.specs.Changes.{applied_all, IsCounted};
-ghost use Rattle.tables.specs.Faults.{told_using};
+ghost use Rattle.tables.specs.{QueryAnswers.Looks, QueryAnswers.StaysUsable, Schema.no_schema, Tables.Tables};
+ghost use Rattle.tables.specs.{Tables.no_rows, Changes.applied_all, Changes.IsCounted, Faults.told_using};
+ghost use Rattle.sqlite_trees.specs.Tree.{Trees};
 
 use crate::changes::commit_entries;
 use crate::creation::make_tables;

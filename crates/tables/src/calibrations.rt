@@ -2,13 +2,9 @@
 
 ghost use Rattle.std.specs.Prelude.{◌≡◌};
 ghost use Rattle.sqlite.specs.Held.{state};
-ghost use Rattle.book.specs.History.{Calibrated};
-ghost use Rattle.book.specs.Values.{calibration_view};
-ghost use Rattle.tables.specs.Changes.{applied};
-ghost use Rattle.tables.specs.Found.{IsFoundAs, IsGreatestAs};
-ghost use Rattle.tables.specs.Queries.{LooksUp, ShowsCalibration};
-ghost use Rattle.tables.specs.Tables.{is_calibration};
-ghost use Rattle.tables.specs.Transaction.{Carries};
+ghost use Rattle.book.specs.{History.Calibrated, Values.calibration_view};
+ghost use Rattle.tables.specs.{Changes.applied, Found.IsFoundAs, Found.IsGreatestAs, Queries.LooksUp};
+ghost use Rattle.tables.specs.{Queries.ShowsCalibration, Tables.is_calibration, Transaction.Carries};
 
 use crate::base::Base;
 use crate::fault::TableFault;
@@ -51,8 +47,7 @@ pub(crate) fn put_calibration<S: Alter>(
 
 impl FromRow for NumberedCalibration {
     ghost use Rattle.std.specs.Prelude.{◌≡◌, pos};
-    ghost use Rattle.sqlite_value.specs.Order.{column};
-    ghost use Rattle.sqlite_value.specs.declared.value.Value.TheVariants.{Int};
+    ghost use Rattle.sqlite_value.specs.{Order.column, declared.value.Value.TheVariants.Int};
 
     ghost shows = { λ row c. (column row 0 ≡ Int (pos c.n)) × (column row 1 ≡ Int c.reading)
         × (column row 2 ≡ Int c.offset) × (column row 3 ≡ Int (pos c.uncertainty)) };

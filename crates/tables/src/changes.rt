@@ -3,8 +3,7 @@
 ghost use Rattle.std.specs.Prelude.{◌≡◌, ◌<◌, false, length};
 ghost use Rattle.sqlite.specs.Held.{state};
 ghost use Rattle.book.specs.Entries.{entry_view, entries_view};
-ghost use Rattle.tables.specs.Changes.{applied, applied_all};
-ghost use Rattle.tables.specs.Transaction.{Carries, Commits};
+ghost use Rattle.tables.specs.{Changes.applied, Changes.applied_all, Transaction.Carries, Transaction.Commits};
 
 use crate::calibrations::put_calibration;
 use crate::deposits::put_deposit;

@@ -1,13 +1,10 @@
 //! Making the tables, and the rows with which they begin.
 
 ghost use Rattle.std.specs.Prelude.{◌≡◌, true, false, IsTrue, Ok, Err, IfOk, IfErr};
-ghost use Rattle.sqlite.specs.Held.{state};
-ghost use Rattle.sqlite.specs.State.{HasCleanDisk};
+ghost use Rattle.sqlite.specs.{Held.state, State.HasCleanDisk};
 ghost use Rattle.book.specs.Entries.{entries_view};
-ghost use Rattle.tables.specs.Schema.{no_schema};
-ghost use Rattle.tables.specs.Tables.{no_rows};
-ghost use Rattle.tables.specs.Transaction.{CarriesFrom};
 ghost use Rattle.tables.specs.Versions.{Creates, Fills, IsInTheWay, takes_name, tells_taken};
+ghost use Rattle.tables.specs.{Schema.no_schema, Tables.no_rows, Transaction.CarriesFrom};
 
 use crate::changes::make_each;
 use crate::fault::{OpenFault, Task};

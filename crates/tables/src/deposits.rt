@@ -1,13 +1,11 @@
 //! The table of deposits: the statement that adds one, inside a transaction, and the look-ups.
 
-ghost use Rattle.std.specs.List.{list_any};
-ghost use Rattle.std.specs.Prelude.{◌≡◌, map};
+ghost use Rattle.std.specs.{List.list_any, Prelude.◌≡◌, Prelude.map};
 ghost use Rattle.sqlite.specs.Held.{state};
 ghost use Rattle.book.specs.Values.{deposit_of};
-ghost use Rattle.tables.specs.Found.{IsFoundAs, AreFoundAs};
 ghost use Rattle.tables.specs.Queries.{LooksUp, ShowsDeposit, label_of, label_view, is_owned, is_owned_by};
 ghost use Rattle.tables.specs.Tables.{with_deposit, is_deposit, is_deposit_of};
-ghost use Rattle.tables.specs.Transaction.{Carries};
+ghost use Rattle.tables.specs.{Found.IsFoundAs, Found.AreFoundAs, Transaction.Carries};
 
 use crate::base::Base;
 use crate::fault::TableFault;
@@ -58,9 +56,7 @@ pub(crate) fn put_deposit<S: Alter>(
 
 impl FromRow for Deposit {
     ghost use Rattle.std.specs.Prelude.{◌≡◌};
-    ghost use Rattle.tables.specs.Queries.{deposit_view};
-    ghost use Rattle.tables.specs.auxiliary.Shown.{deposit_shown};
-    ghost use Rattle.tables.specs.Tables.{DepositRow};
+    ghost use Rattle.tables.specs.{Queries.deposit_view, auxiliary.Shown.deposit_shown, Tables.DepositRow};
 
     ghost shows = { λ row d. (x : DepositRow) → row ≡ deposit_shown x → deposit_view d ≡ x };
 
@@ -80,8 +76,7 @@ impl FromRow for Deposit {
 
 impl FromRow for Label {
     ghost use Rattle.std.specs.Prelude.{◌≡◌};
-    ghost use Rattle.tables.specs.Queries.{label_view};
-    ghost use Rattle.tables.specs.auxiliary.Shown.{label_in};
+    ghost use Rattle.tables.specs.{Queries.label_view, auxiliary.Shown.label_in};
 
     ghost shows = { λ row label. label_view label ≡ label_in row };
 

@@ -1,15 +1,11 @@
 //! The table of holds: the statement that adds one, inside a transaction, and the look-ups.
 
-ghost use Rattle.std.specs.List.{list_any};
-ghost use Rattle.std.specs.Prelude.{◌≡◌, ◌<◌, ◌^◌, IfOk, IfSome};
+ghost use Rattle.std.specs.{List.list_any, Prelude.◌≡◌, Prelude.◌<◌, Prelude.◌^◌, Prelude.IfOk, Prelude.IfSome};
 ghost use Rattle.sqlite.specs.Held.{state};
-ghost use Rattle.book.specs.History.{Held};
-ghost use Rattle.book.specs.Values.{hold_view};
-ghost use Rattle.tables.specs.Changes.{applied};
+ghost use Rattle.book.specs.{History.Held, Values.hold_view};
 ghost use Rattle.tables.specs.Found.{IsFoundAs, IsGreatestAs};
 ghost use Rattle.tables.specs.Queries.{LooksUp, ShowsHold, ShowsNumber, holds_at};
-ghost use Rattle.tables.specs.Tables.{is_hold};
-ghost use Rattle.tables.specs.Transaction.{Carries};
+ghost use Rattle.tables.specs.{Changes.applied, Tables.is_hold, Transaction.Carries};
 
 use crate::base::Base;
 use crate::fault::TableFault;
@@ -41,8 +37,7 @@ pub(crate) fn put_hold<S: Alter>(tx: &mut Transaction<'_, S>, hold: &Hold) -> Re
 
 impl FromRow for Hold {
     ghost use Rattle.std.specs.Prelude.{◌≡◌};
-    ghost use Rattle.sqlite_value.specs.Order.{column};
-    ghost use Rattle.sqlite_value.specs.declared.value.Value.TheVariants.{Int};
+    ghost use Rattle.sqlite_value.specs.{Order.column, declared.value.Value.TheVariants.Int};
 
     ghost shows = { λ row h. (column row 0 ≡ Int h.from) × (column row 1 ≡ Int h.to) };
 

@@ -2,13 +2,9 @@
 
 ghost use Rattle.std.specs.Prelude.{◌≡◌};
 ghost use Rattle.sqlite.specs.Held.{state};
-ghost use Rattle.book.specs.History.{Installed};
-ghost use Rattle.book.specs.Values.{installed_of};
-ghost use Rattle.tables.specs.Changes.{applied};
-ghost use Rattle.tables.specs.Found.{IsFoundAs};
+ghost use Rattle.book.specs.{History.Installed, Values.installed_of};
 ghost use Rattle.tables.specs.Queries.{LooksUp, ShowsIdentity};
-ghost use Rattle.tables.specs.Tables.{is_identity};
-ghost use Rattle.tables.specs.Transaction.{Carries};
+ghost use Rattle.tables.specs.{Changes.applied, Found.IsFoundAs, Tables.is_identity, Transaction.Carries};
 
 use crate::base::Base;
 use crate::fault::TableFault;
@@ -53,9 +49,7 @@ pub(crate) fn put_identity<S: Alter>(
 
 impl FromRow for IdentityRow {
     ghost use Rattle.std.specs.Prelude.{◌≡◌};
-    ghost use Rattle.tables.specs.Queries.{identity_view};
-    ghost use Rattle.tables.specs.auxiliary.Shown.{identity_shown};
-    ghost use Rattle.tables.specs.Tables.{InstalledRow};
+    ghost use Rattle.tables.specs.{Queries.identity_view, auxiliary.Shown.identity_shown, Tables.InstalledRow};
 
     ghost shows = { λ row i. (x : InstalledRow) → row ≡ identity_shown x → identity_view i ≡ x };
 

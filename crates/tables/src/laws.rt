@@ -1,9 +1,7 @@
 //! What an opening finds of the tables.
 ghost use Rattle.sqlite.specs.Effect.{Database, IsDatabase};
 ghost use Rattle.tables.specs.Layout.{IsStored, IsDatabaseOf, IsStoredIn, IsDatabaseIn};
-ghost use Rattle.tables.specs.Tables.{Tables};
-ghost use Rattle.tables.specs.Versions.{number_of};
-ghost use Rattle.tables.specs.declared.version.Version.{Version};
+ghost use Rattle.tables.specs.{Tables.Tables, Versions.number_of, declared.version.Version.Version};
 
 /// Trees in which tables are stored list the counter's schema and no other: a database that is found in them has these
 /// tables.

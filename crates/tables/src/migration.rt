@@ -1,15 +1,11 @@
 //! Tables of an earlier version of the schema, taken to that of now.
 
 ghost use Rattle.std.specs.Prelude.{◌≡◌, ◌⊎◌, false, IfErr, OnOk, IsTrue};
-ghost use Rattle.sqlite.specs.Held.{state};
-ghost use Rattle.sqlite.specs.State.{HasCleanDisk};
+ghost use Rattle.sqlite.specs.{Held.state, State.HasCleanDisk};
 ghost use Rattle.tables.specs.Layout.{IsDatabaseOf, IsDatabaseIn, IsOnTheWay};
-ghost use Rattle.tables.specs.Migration.{Migrates};
-ghost use Rattle.tables.specs.Tables.{Tables};
-ghost use Rattle.tables.specs.Transaction.{CommitsFrom};
-ghost use Rattle.tables.specs.auxiliary.Steps.{LeadsOn};
 ghost use Rattle.tables.specs.Versions.{IsFoundIn, IsUntold, LooksAs, number_of, tells_taken};
 ghost use Rattle.tables.specs.declared.version.Version.{Version as Value};
+ghost use Rattle.tables.specs.{Migration.Migrates, Tables.Tables, Transaction.CommitsFrom, auxiliary.Steps.LeadsOn};
 
 use crate::fault::{OpenFault, Task};
 use crate::version::{Version, found_version};

@@ -1,21 +1,13 @@
 //! Queries, asked inside a transaction that goes on, or each in one of its own that is undone.
 ghost use Rattle.std.specs.Prelude.{◌≡◌, ◌≢◌, ◌<◌, ◌^◌, ◌∷◌, [], ℕ, pos, false, length, IfOk, IfErr, IfSome, OnOk};
-ghost use Rattle.std.specs.Prelude.{IsTrue, string_bytes, option_map, is_some};
-ghost use Rattle.std.specs.List.{slice_get};
-ghost use Rattle.sqlite_value.specs.Value.{owned};
-ghost use Rattle.sqlite_value.specs.Order.{column};
+ghost use Rattle.std.specs.{Prelude.IsTrue, Prelude.string_bytes, Prelude.option_map, Prelude.is_some, List.slice_get};
 ghost use Rattle.sqlite_value.specs.declared.value.Value.TheVariants.{Int, Text, Blob};
-ghost use Rattle.sqlite.specs.Held.{state};
-ghost use Rattle.sqlite.specs.State.{HasCleanDisk};
-ghost use Rattle.sqlite.specs.Values.{bound};
-ghost use Rattle.tables.specs.Layout.{token_cell};
-ghost use Rattle.tables.specs.Versions.{IsUnanswered};
-ghost use Rattle.tables.specs.Schema.{the_schema};
+ghost use Rattle.sqlite_value.specs.{Value.owned, Order.column};
+ghost use Rattle.sqlite.specs.{Held.state, State.HasCleanDisk, Values.bound};
 ghost use Rattle.tables.specs.QueryAnswers.{IsQueryText, IsPlainIn, Answers, TellsRows, TellsNumber, Looks};
-ghost use Rattle.tables.specs.QueryAnswers.{AreReadAs, AsksInside};
-ghost use Rattle.tables.specs.Transaction.{Carries};
-ghost use Rattle.tables.specs.Changes.{IsCounted};
 ghost use Rattle.tables.specs.Queries.{LooksUp, TellsRow, TellsAs, TellsAll, TellsAllAs};
+ghost use Rattle.tables.specs.{Layout.token_cell, Versions.IsUnanswered, Schema.the_schema, QueryAnswers.AreReadAs};
+ghost use Rattle.tables.specs.{QueryAnswers.AsksInside, Transaction.Carries, Changes.IsCounted};
 
 use crate::base::Base;
 use crate::fault::TableFault;

@@ -1,14 +1,11 @@
 //! The rights of accounts and of groups: the statements that change them, inside a transaction, and the look-ups.
 
-ghost use Rattle.std.specs.List.{list_any};
-ghost use Rattle.std.specs.Prelude.{◌≡◌, ◌<◌, ◌^◌, IfOk, IfSome};
+ghost use Rattle.std.specs.{List.list_any, Prelude.◌≡◌, Prelude.◌<◌, Prelude.◌^◌, Prelude.IfOk, Prelude.IfSome};
 ghost use Rattle.sqlite.specs.Held.{state};
 ghost use Rattle.book.specs.Entries.{reader_view};
-ghost use Rattle.tables.specs.Found.{IsLeastAs};
 ghost use Rattle.tables.specs.Queries.{LooksUp, ShowsReaderSerial, is_readable_after};
-ghost use Rattle.tables.specs.auxiliary.Steps.{with_right_alone};
 ghost use Rattle.tables.specs.Tables.{without_right, is_reader_row, by_kind, rights_of, name_of};
-ghost use Rattle.tables.specs.Transaction.{Carries};
+ghost use Rattle.tables.specs.{Found.IsLeastAs, auxiliary.Steps.with_right_alone, Transaction.Carries};
 
 use crate::base::Base;
 use crate::fault::TableFault;

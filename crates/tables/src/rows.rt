@@ -1,6 +1,5 @@
 ghost use Rattle.std.specs.Prelude.{◌≡◌, ◌<◌, ◌^◌, min, pos, IfOk, IfErr};
-ghost use Rattle.sqlite_value.specs.Value.{owned};
-ghost use Rattle.sqlite_value.specs.declared.value.Value.TheVariants.{Int};
+ghost use Rattle.sqlite_value.specs.{Value.owned, declared.value.Value.TheVariants.Int};
 ghost use Rattle.book.specs.Sound.{greatest_number};
 
 use book::GREATEST_NUMBER;

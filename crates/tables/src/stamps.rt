@@ -2,13 +2,10 @@
 
 ghost use Rattle.std.specs.Prelude.{◌≡◌, None};
 ghost use Rattle.sqlite.specs.Held.{state};
-ghost use Rattle.book.specs.History.{day_of, stamp_of};
-ghost use Rattle.book.specs.Values.{reservation_view};
-ghost use Rattle.tables.specs.Found.{IsFoundAs, IsLeastAs, IsGreatestAs};
+ghost use Rattle.book.specs.{History.day_of, History.stamp_of, Values.reservation_view};
 ghost use Rattle.tables.specs.Queries.{LooksUp, ShowsStamp, ShowsOrigin, ShowsLast, is_within};
-ghost use Rattle.tables.specs.auxiliary.Steps.{with_stamp_alone};
-ghost use Rattle.tables.specs.Tables.{with_token, is_stamp};
-ghost use Rattle.tables.specs.Transaction.{Carries};
+ghost use Rattle.tables.specs.{Found.IsFoundAs, Found.IsLeastAs, Found.IsGreatestAs, auxiliary.Steps.with_stamp_alone};
+ghost use Rattle.tables.specs.{Tables.with_token, Tables.is_stamp, Transaction.Carries};
 
 use crate::base::Base;
 use crate::fault::TableFault;
@@ -84,9 +81,7 @@ pub(crate) fn set_token<S: Alter>(
 
 impl FromRow for Stamp {
     ghost use Rattle.std.specs.Prelude.{◌≡◌};
-    ghost use Rattle.tables.specs.Queries.{stamp_view};
-    ghost use Rattle.tables.specs.auxiliary.Shown.{stamp_shown};
-    ghost use Rattle.tables.specs.Tables.{StampRow};
+    ghost use Rattle.tables.specs.{Queries.stamp_view, auxiliary.Shown.stamp_shown, Tables.StampRow};
 
     ghost shows = { λ row s. (x : StampRow) → row ≡ stamp_shown x → stamp_view s ≡ x };
 
@@ -118,9 +113,7 @@ impl FromRow for Stamp {
 
 impl FromRow for Origin {
     ghost use Rattle.std.specs.Prelude.{◌≡◌};
-    ghost use Rattle.tables.specs.Queries.{ShowsOrigin};
-    ghost use Rattle.tables.specs.auxiliary.Shown.{origin_shown};
-    ghost use Rattle.tables.specs.Tables.{StampRow};
+    ghost use Rattle.tables.specs.{Queries.ShowsOrigin, auxiliary.Shown.origin_shown, Tables.StampRow};
 
     ghost shows = { λ row origin. (x : StampRow) → row ≡ origin_shown x → ShowsOrigin x origin };
 
@@ -133,8 +126,7 @@ impl FromRow for Origin {
 
 impl FromRow for LastStamp {
     ghost use Rattle.std.specs.Prelude.{◌≡◌, pos};
-    ghost use Rattle.sqlite_value.specs.Order.{column};
-    ghost use Rattle.sqlite_value.specs.declared.value.Value.TheVariants.{Int};
+    ghost use Rattle.sqlite_value.specs.{Order.column, declared.value.Value.TheVariants.Int};
 
     ghost shows = { λ row last. (column row 0 ≡ Int (pos last.serial)) × (column row 1 ≡ Int (pos last.gen_time)) };
 

@@ -1,14 +1,10 @@
 //! The table of tallies: the statements that raise one, inside a transaction, and the look-up.
 
 ghost use Rattle.std.specs.Prelude.{◌≡◌, IsTrue, IfOk, length, filter};
-ghost use Rattle.sqlite.specs.Held.{state};
-ghost use Rattle.sqlite.specs.State.{HasCleanDisk};
-ghost use Rattle.tables.specs.Found.{IsFoundAs};
-ghost use Rattle.tables.specs.Layout.{IsDatabaseOf};
-ghost use Rattle.tables.specs.Queries.{LooksUp, ShowsCount};
+ghost use Rattle.sqlite.specs.{Held.state, State.HasCleanDisk};
 ghost use Rattle.tables.specs.auxiliary.Steps.{with_raised, with_first_tally, with_count};
-ghost use Rattle.tables.specs.Tables.{Tables, is_tally_of};
-ghost use Rattle.tables.specs.Transaction.{Carries};
+ghost use Rattle.tables.specs.{Found.IsFoundAs, Layout.IsDatabaseOf, Queries.LooksUp, Queries.ShowsCount};
+ghost use Rattle.tables.specs.{Tables.Tables, Tables.is_tally_of, Transaction.Carries};
 
 use crate::base::Base;
 use crate::fault::TableFault;

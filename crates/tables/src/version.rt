@@ -2,14 +2,11 @@
 
 ghost use Rattle.std.specs.Prelude.{◌≡◌, ◌≢◌, ◌↔◌, [], Some, false, IsTrue, IfOk, IfErr, OnOk};
 ghost use Rattle.sqlite_resolve.specs.declared.error.CompileError.{CompileError};
-ghost use Rattle.sqlite.specs.Held.{state};
-ghost use Rattle.sqlite.specs.State.{HasCleanDisk};
+ghost use Rattle.sqlite.specs.{Held.state, State.HasCleanDisk};
 ghost use Rattle.tables.specs.QueryAnswers.{Answers, Looks};
-ghost use Rattle.tables.specs.Layout.{IsDatabaseIn};
 ghost use Rattle.tables.specs.Versions.{version_query, columns_of, number_of, IsKnownAs, IsVersion};
 ghost use Rattle.tables.specs.Versions.{IsUnprepared, IsUnanswered, IsUntold, TellsVersion};
-ghost use Rattle.tables.specs.auxiliary.Told.{TellsColumns};
-ghost use Rattle.tables.specs.Tables.{Tables};
+ghost use Rattle.tables.specs.{Layout.IsDatabaseIn, auxiliary.Told.TellsColumns, Tables.Tables};
 
 use crate::queries::rows_of;
 use sqlite::types::ValueRef;

@@ -1,10 +1,8 @@
 -- The texts of a line, while it is made: a stepping stone, no definition.
-use Rattle.std.specs.Prelude.{◌≡◌, string_bytes}
-use Rattle.std.specs.Fmt.{decimal}
+use Rattle.std.specs.{Prelude.◌≡◌, Prelude.string_bytes, Fmt.decimal}
 use Rattle.hex.specs.Hex.{encode_lower}
 use Rattle.book.specs.Rows.{StampRow}
-use Rattle.audit.specs.Extract.{identifier_text, moment_text, token_text}
-use Rattle.audit.specs.declared.line.Texts.{Texts}
+use Rattle.audit.specs.{Extract.identifier_text, Extract.moment_text, Extract.token_text, declared.line.Texts.Texts}
 
 pub record AreTexts (texts : Texts) (stamp : StampRow) : Type 0 where
   pub serial : string_bytes texts.serial ≡ decimal stamp.serial

@@ -6,11 +6,9 @@ use Rattle.clap.specs.declared.builder.action.ArgAction.{ArgAction}
 use Rattle.clap.specs.declared.builder.action.ArgAction.TheVariants.{Set, SetTrue}
 use Rattle.clap.specs.declared.builder.value_parser.ValueParser.{ValueParser}
 use Rattle.clap.specs.declared.builder.value_parser.ValueParser.TheVariants.{String}
-use Rattle.command_line.specs.Options.{number_between, with_rules}
-use Rattle.command_line.specs.declared.options.OptionRow.{OptionRow}
-use Rattle.command_line.specs.declared.options.Value.{Value}
 use Rattle.command_line.specs.declared.options.Value.TheVariants.{Text, Number, Nothing}
-use Rattle.command_line.specs.declared.table.SubcommandRow.{SubcommandRow}
+use Rattle.command_line.specs.{Options.number_between, Options.with_rules, declared.options.OptionRow.OptionRow}
+use Rattle.command_line.specs.{declared.options.Value.Value, declared.table.SubcommandRow.SubcommandRow}
 
 abbrev pub action_in : Value → ArgAction
 action_in Nothing = SetTrue

@@ -4,19 +4,12 @@ use Rattle.policy.specs.Record.{PolicyValue}
 use Rattle.book.specs.declared.standing.Standing.{Ghosts}
 use Rattle.cms.specs.declared.signer.SignerFault.{SignerFault}
 use Rattle.desk.specs.Batches.{Question, stamp_for}
-use Rattle.desk.specs.CallContract.{DeskValue}
-use Rattle.desk.specs.Command.{Answer}
-use Rattle.desk.specs.Together.{IsAnsweredTogether}
-use Rattle.service.specs.Answers.{answer_to}
-use Rattle.service.specs.Received.{ReceivedValue}
-use Rattle.service.specs.Served.{Sends}
-use Rattle.service.specs.Stamps.{AsksStamp}
+use Rattle.desk.specs.{CallContract.DeskValue, Command.Answer, Together.IsAnsweredTogether}
 use Rattle.service.specs.declared.exchange.Exchanged.{Exchanged}
-use Rattle.connections.specs.Heard.{AreGathered, AreTakenBack}
+use Rattle.service.specs.{Answers.answer_to, Received.ReceivedValue, Served.Sends, Stamps.AsksStamp}
 use Rattle.connections.specs.Parts.{Answered, HandedValue, TellsAll}
-use Rattle.connections.specs.declared.clock.ClockFailed.{ClockFailed}
-use Rattle.connections.specs.declared.gathering.Gathering.{Gathering}
-use Rattle.connections.specs.declared.gathering.Handed.{Handed}
+use Rattle.connections.specs.{Heard.AreGathered, Heard.AreTakenBack, declared.clock.ClockFailed.ClockFailed}
+use Rattle.connections.specs.{declared.gathering.Gathering.Gathering, declared.gathering.Handed.Handed}
 
 abbrev pub handed_view : {S : Type 0} → Handed S → HandedValue S
 handed_view one = record { received = one.request; stream = one.stream; reading = one.reading }

@@ -1,31 +1,22 @@
 -- A calibration and a hold are steps of the machine.
-use Rattle.std.proofs.Common.{◌≡◌, ℕ, ◌⊎◌, cond, Bool, true, false, [], ◌∷◌, ◌++◌, Option, Some, None, Ok, Err, refl, sym}
+use Rattle.std.proofs.Common.{◌≡◌, ℕ, ◌⊎◌, cond, Bool, true, false, [], ◌∷◌, ◌++◌, Option, Some, None, Ok, Err, refl}
+use Rattle.std.proofs.Common.{sym}
 use Rattle.std.proofs.Common.{ap, ◌∙◌, subst, inl, inr, Result, IfErr, IsErr}
-use Rattle.std.specs.Prelude.{IfOk, MatchResult}
-use Rattle.std.specs.Result.{IsErrAnd}
-use Rattle.book.specs.declared.standing.Standing.{Ghosts}
-use Rattle.book.specs.History.{Entry, History}
-use Rattle.book.specs.Sound.{Fits}
-use Rattle.book.specs.Entries.{Appends}
+use Rattle.std.specs.{Prelude.IfOk, Prelude.MatchResult, Result.IsErrAnd}
 use Rattle.book.specs.Fault.{IsOfStorage, IsOfStorageOr}
-use Rattle.book.specs.Stands.{Stands, LeavesAsBefore}
-use Rattle.book.specs.declared.fault.StoreFault.{StoreFault}
+use Rattle.book.specs.{declared.standing.Standing.Ghosts, History.Entry, History.History, Sound.Fits, Entries.Appends}
+use Rattle.book.specs.{Stands.Stands, Stands.LeavesAsBefore, declared.fault.StoreFault.StoreFault}
 use Rattle.book.specs.declared.fault.StoreFault.TheVariants as store
-use Rattle.desk.specs.Fit.{IsFit}
 use Rattle.desk.specs.Outcome.{Call, Fine, OutOfMemory, Failed, Outcome, Cause, OfMemory, OfStore, cause_of}
-use Rattle.desk.specs.Outcome.{faults_after, all_fine}
 use Rattle.desk.specs.Command.{Setting, Command, Numbered, Refused}
 use Rattle.desk.specs.Effects.{Effect, only, unless, fault_of, numbered}
-use Rattle.desk.specs.Calls.{store_cause}
 use Rattle.desk.specs.auxiliary.Obstacles.{adding, hindered, outcome_with, told_with}
-use Rattle.desk.specs.Shown.{numbered_as}
-use Rattle.desk.specs.MachineStep.{HasEffect, IsMet}
 use Rattle.desk.specs.CallContract.{StepsBy, MayBeLeft, IsBlamed, IsExcused, IsOpened, no_signer, committed}
+use Rattle.desk.specs.{Fit.IsFit, Outcome.faults_after, Outcome.all_fine, Calls.store_cause, Shown.numbered_as}
+use Rattle.desk.specs.{MachineStep.HasEffect, MachineStep.IsMet, declared.obstacle.Obstacle.Obstacle}
 use Rattle.desk.specs.declared.fault.Fault.TheVariants as fault
-use Rattle.desk.specs.declared.obstacle.Obstacle.{Obstacle}
 use Rattle.desk.specs.declared.obstacle.Obstacle.TheVariants as obstacle
-use Rattle.desk.proofs.calls.Fits.{none_failed}
-use Rattle.desk.proofs.stamps.Beginnings.{one_in_doubt}
+use Rattle.desk.proofs.{calls.Fits.none_failed, stamps.Beginnings.one_in_doubt}
 
 -- what a command does that enters one entry, unless the history turns it back
 abbrev pub entering : Entry → ℕ → Option Cause → Bool → Effect

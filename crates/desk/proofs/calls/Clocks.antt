@@ -4,13 +4,10 @@ use Rattle.std.specs.Prelude.{option_map}
 use Rattle.gentime.specs.GenTime.{last_moment}
 use Rattle.book.specs.History.{Reserved, Sealed, Deposited, Calibrated, Held, Granted, Revoked, Installed, History}
 use Rattle.book.specs.History.{CalibrationValue, latest_calibration, last_gen_time, greatest_serial}
-use Rattle.book.specs.Sound.{IsSound}
-use Rattle.book.specs.Values.{last_of}
-use Rattle.book.specs.declared.values.Last.{Last}
+use Rattle.book.specs.{Sound.IsSound, Values.last_of, declared.values.Last.Last}
 use Rattle.decide.specs.declared.facts.Calibration.{Calibration}
-use Rattle.desk.specs.Facts.{now_in, now_with, is_held_at}
 use Rattle.desk.specs.Calls.{looked_at, calibrations_as, moment_or_last}
-use Rattle.desk.specs.declared.clock_facts.Looked.{Looked}
+use Rattle.desk.specs.{Facts.now_in, Facts.now_with, Facts.is_held_at, declared.clock_facts.Looked.Looked}
 
 within : (moment : ℕ) → moment ≤ last_moment → moment_or_last moment ≡ moment
 within moment h = omega arith

@@ -1,11 +1,8 @@
 -- Outcomes that fit, where they compute.
 use Rattle.std.proofs.Common.{◌≡◌, inl, inr, sym, subst}
-use Rattle.book.specs.declared.fault.StoreFault.{StoreFault}
+use Rattle.book.specs.{declared.fault.StoreFault.StoreFault, Fault.IsOfStorage}
 use Rattle.book.specs.declared.fault.StoreFault.TheVariants as store
-use Rattle.book.specs.Fault.{IsOfStorage}
-use Rattle.desk.specs.Calls.{call_of}
-use Rattle.desk.specs.Fit.{IsUncounted, IsUnfailed, HasNoneFailed}
-use Rattle.desk.specs.Outcome.{Fine, Outcome}
+use Rattle.desk.specs.{Calls.call_of, Fit.IsUncounted, Fit.IsUnfailed, Fit.HasNoneFailed, Outcome.Fine, Outcome.Outcome}
 
 -- no call was refused for a cause that is counted
 pub none_failed : (o : Outcome) → IsUncounted o.searching → IsUncounted o.looking → IsUncounted o.counting

@@ -1,23 +1,14 @@
 -- What is proved of a desk's parts is said of the desk.
 use Rattle.std.proofs.Common.{◌≡◌, ◌∙◌, ℕ, [], Result, Ok, Err, refl, sym, ap, subst}
 use Rattle.std.specs.Result.{IsErrAnd}
-use Rattle.book.specs.declared.standing.Standing.{Ghosts}
-use Rattle.book.specs.History.{History}
-use Rattle.book.specs.Readers.{Reader}
-use Rattle.book.specs.Sound.{IsSound}
-use Rattle.desk.specs.Answers.{answered}
-use Rattle.desk.specs.Asked.{right_command}
+use Rattle.book.specs.{declared.standing.Standing.Ghosts, History.History, Readers.Reader, Sound.IsSound}
 use Rattle.desk.specs.Command.{InForce, Setting, Command, Succeed, Answer, Done, Refused, setting_after}
 use Rattle.desk.specs.auxiliary.Obstacles.{fault_with, hindered, outcome_with, told_with}
-use Rattle.desk.specs.declared.fault.Fault.{Fault}
 use Rattle.desk.specs.declared.obstacle.Obstacle.{Obstacle}
-use Rattle.desk.specs.declared.rights.Change.{Change}
 use Rattle.desk.specs.declared.rights.Change.TheVariants.{Give, Take}
-use Rattle.desk.specs.Effects.{Effect}
-use Rattle.desk.specs.Outcome.{Outcome, all_fine}
-use Rattle.desk.specs.Promises.{KeepsPromises}
-use Rattle.desk.specs.MachineStep.{HasEffect}
 use Rattle.desk.specs.CallContract.{DeskValue, desk_of, SignerStep, no_signer, StepsBy, IsStepBy, IsStep, HasOpened}
+use Rattle.desk.specs.{Answers.answered, Asked.right_command, declared.fault.Fault.Fault, declared.rights.Change.Change}
+use Rattle.desk.specs.{Effects.Effect, Outcome.Outcome, Outcome.all_fine, Promises.KeepsPromises, MachineStep.HasEffect}
 use Rattle.desk.proofs.calls.Wrapped.{IsWrapped, wrapped, wrapped_is}
 use Rattle.policy.specs.Record.{AccountValue}
 

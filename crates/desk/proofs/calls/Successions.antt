@@ -1,33 +1,24 @@
 -- An identity is installed, unless it is the one that was installed last.
 use Rattle.std.proofs.Common.{◌≡◌, true, false, List, [], ◌∷◌, ◌++◌, length, map, reverse, Option, Some, None}
 use Rattle.std.proofs.Common.{Result, Ok, Err, refl, sym, ◌∙◌, ap, subst, inl, inr, arith}
-use Rattle.std.specs.Prelude.{option_map, IfErr}
 use Rattle.std.proofs.lemmas.List.{reverse-append, reverse-reverse, map-append}
-use Rattle.std.specs.Hash.DefaultHasher.{wrapping_add}
-use Rattle.book.specs.declared.fault.StoreFault.{StoreFault}
-use Rattle.book.specs.declared.fault.StoreFault.TheVariants as store
-use Rattle.book.specs.declared.rows.IdentityRow.{IdentityRow}
-use Rattle.book.specs.declared.standing.Standing.{Ghosts}
-use Rattle.book.specs.Fault.{count_after, IsOfStorage}
+use Rattle.std.specs.{Prelude.option_map, Prelude.IfErr, Hash.DefaultHasher.wrapping_add}
 use Rattle.book.specs.History.{Reserved, Sealed, Deposited, Calibrated, Held, Granted, Revoked, Installed, History}
 use Rattle.book.specs.History.{InstalledValue, first_of}
 use Rattle.book.specs.Identities.{latest_identity, installed_rows, identities, installed_as}
-use Rattle.book.specs.Rows.{InstalledRow}
-use Rattle.book.specs.Entries.{Appends}
-use Rattle.book.specs.Stands.{Stands, OnlyLooks}
-use Rattle.book.specs.Values.{identity_view}
+use Rattle.book.specs.{declared.fault.StoreFault.StoreFault, declared.rows.IdentityRow.IdentityRow}
+use Rattle.book.specs.{declared.standing.Standing.Ghosts, Fault.count_after, Fault.IsOfStorage, Rows.InstalledRow}
+use Rattle.book.specs.{Entries.Appends, Stands.Stands, Stands.OnlyLooks, Values.identity_view}
+use Rattle.book.specs.declared.fault.StoreFault.TheVariants as store
 use Rattle.desk.specs.Command.{InForce, Setting, Succeed, Done, Refused}
 use Rattle.desk.specs.Effects.{only, unless, fault_of, accepted, succeed_effect}
-use Rattle.desk.specs.Fit.{IsFit}
 use Rattle.desk.specs.auxiliary.Obstacles.{fault_with, hindered, outcome_with, told_with}
 use Rattle.desk.specs.Outcome.{Fine, Outcome, Cause, OfMemory, OfStore, cause_of, faults_after, all_fine}
 use Rattle.desk.specs.CallContract.{no_signer, IsBlamed, StepsBy, committed}
-use Rattle.desk.specs.Shown.{done_as}
-use Rattle.desk.specs.Succession.{installed_by, is_latest}
+use Rattle.desk.specs.{Fit.IsFit, Shown.done_as, Succession.installed_by, Succession.is_latest}
 use Rattle.desk.specs.declared.obstacle.Obstacle.TheVariants as obstacle
 use Rattle.desk.proofs.calls.Fits.{by_storage, none_failed}
-use Rattle.desk.proofs.stamps.Beginnings.{one_in_doubt}
-use Rattle.desk.proofs.calls.Wrapped.{wrapped}
+use Rattle.desk.proofs.{stamps.Beginnings.one_in_doubt, calls.Wrapped.wrapped}
 
 -- the latest identity is that of the newest row
 abbrev newest_in : List InstalledRow → Option InstalledValue

@@ -1,7 +1,6 @@
 -- Calls whose refusals are wrapped.
 use Rattle.std.proofs.Common.{◌≡◌, Result, Ok, Err, refl, ap}
-use Rattle.std.specs.Prelude.{MatchResult}
-use Rattle.std.specs.Result.{IsErrAnd}
+use Rattle.std.specs.{Prelude.MatchResult, Result.IsErrAnd}
 
 -- what is told of an answer
 abbrev pub wrapped : {T E D : Type 0} → (E → D) → Result T E → Result T D

@@ -2,34 +2,24 @@
 use Rattle.std.proofs.Common.{◌≡◌, ℕ, List, [], Option, Some, None, option_map, option_and_then, Ok, refl, sym, ap, ◌∙◌}
 use Rattle.std.proofs.Common.{inl, inr, subst}
 use Rattle.tsp.specs.Granted.{granted_octets}
-use Rattle.book.specs.declared.fault.StoreFault.{StoreFault}
-use Rattle.book.specs.declared.fault.StoreFault.TheVariants as store
-use Rattle.book.specs.declared.standing.Standing.{Ghosts}
-use Rattle.book.specs.Fault.{IsOfStorage, count_after}
 use Rattle.book.specs.History.{History, stamp_at, stamp_of, token_of}
-use Rattle.book.specs.Readers.{Reader, Viewer}
-use Rattle.book.specs.Rights.{deposit_with_stamp, seen_by}
-use Rattle.book.specs.Rows.{DepositRow, StampRow}
-use Rattle.book.specs.Sound.{IsSound}
-use Rattle.book.specs.Stands.{Stands, OnlyLooks}
-use Rattle.book.specs.Values.{deposit_view, stamped_view}
-use Rattle.book.specs.declared.values.StampedDeposit.{StampedDeposit}
-use Rattle.desk.specs.Calls.{call_of, store_cause}
+use Rattle.book.specs.{declared.fault.StoreFault.StoreFault, declared.standing.Standing.Ghosts, Fault.IsOfStorage}
+use Rattle.book.specs.{Fault.count_after, Readers.Reader, Readers.Viewer, Rights.deposit_with_stamp, Rights.seen_by}
+use Rattle.book.specs.{Rows.DepositRow, Rows.StampRow, Sound.IsSound, Stands.Stands, Stands.OnlyLooks}
+use Rattle.book.specs.{Values.deposit_view, Values.stamped_view, declared.values.StampedDeposit.StampedDeposit}
+use Rattle.book.specs.declared.fault.StoreFault.TheVariants as store
 use Rattle.desk.specs.Command.{Setting, Command, Answer, Shown, Refused}
 use Rattle.desk.specs.Effects.{Effect, fault_of, only, unless, no_sight, show_effect, token_effect, reply_or_nothing}
-use Rattle.desk.specs.Fit.{IsFit}
-use Rattle.desk.specs.auxiliary.Obstacles.{fault_with, hindered, token_in, IsDenied, IsOfSight, IsOfRight, IsUnseen, Sees}
+use Rattle.desk.specs.auxiliary.Obstacles.{fault_with, hindered, token_in, IsDenied, IsOfSight, IsOfRight, IsUnseen}
+use Rattle.desk.specs.auxiliary.Obstacles.{Sees}
 use Rattle.desk.specs.Outcome.{Call, Fine, Outcome, Cause, OfMemory, OfStore, cause_of, faults_after, all_fine}
-use Rattle.desk.specs.MachineStep.{HasEffect}
 use Rattle.desk.specs.CallContract.{no_signer, IsBlamed, IsBlamedFor, IsOpened, StepsBy}
-use Rattle.desk.specs.declared.fault.Fault.{Fault}
-use Rattle.desk.specs.declared.fault.Fault.TheVariants as fault
 use Rattle.desk.specs.declared.obstacle.Obstacle.{Obstacle}
+use Rattle.desk.specs.{Calls.call_of, Calls.store_cause, Fit.IsFit, MachineStep.HasEffect, declared.fault.Fault.Fault}
+use Rattle.desk.specs.declared.fault.Fault.TheVariants as fault
 use Rattle.desk.specs.declared.obstacle.Obstacle.TheVariants as obstacle
-use Rattle.desk.proofs.calls.Fits.{by_storage, none_failed}
-use Rattle.desk.proofs.stamps.Judgement.{looks_then, same_count}
-use Rattle.desk.proofs.documents.Shows.{deposit_reserved}
-use Rattle.desk.proofs.documents.Sighted.{may_see}
+use Rattle.desk.proofs.{calls.Fits.by_storage, calls.Fits.none_failed, stamps.Judgement.looks_then}
+use Rattle.desk.proofs.{stamps.Judgement.same_count, documents.Shows.deposit_reserved, documents.Sighted.may_see}
 
 denial_blamed : {B : Type 0} (reader : Reader) (g : Ghosts B) (c : Command) (old new : B) (f : Fault) → IsDenied reader f
     → IsBlamedFor g c (all_fine (Ok [])) old new f

@@ -1,46 +1,29 @@
 -- A right is entered, or refused.
 use Rattle.std.proofs.Common.{◌≡◌, ℕ, cond, Bool, true, false, List, [], ◌∷◌, ◌++◌, Option, Some, None, Ok, Err, refl}
 use Rattle.std.proofs.Common.{sym, ap, ◌∙◌, subst, inl, inr}
-use Rattle.std.specs.Prelude.{Result, IfErr, MatchResult}
-use Rattle.std.specs.Str.{bytes_eq}
-use Rattle.std.specs.Hash.DefaultHasher.{wrapping_add}
+use Rattle.std.specs.{Prelude.Result, Prelude.IfErr, Prelude.MatchResult, Str.bytes_eq, Hash.DefaultHasher.wrapping_add}
 use Rattle.policy.specs.Record.{AccountValue, PolicyValue}
-use Rattle.book.specs.declared.fault.StoreFault.{StoreFault}
-use Rattle.book.specs.declared.fault.StoreFault.TheVariants as store
-use Rattle.book.specs.declared.standing.Standing.{Ghosts}
-use Rattle.book.specs.Fault.{IsOfStorage}
-use Rattle.book.specs.History.{Entry, History}
-use Rattle.book.specs.Readers.{Reader, Viewer}
 use Rattle.book.specs.Rights.{is_of, is_own, seen_by}
-use Rattle.book.specs.Rows.{DepositRow}
-use Rattle.book.specs.Sound.{Fits, FitsRight}
-use Rattle.book.specs.Entries.{Appends}
-use Rattle.book.specs.Stands.{Stands, OnlyLooks}
-use Rattle.desk.specs.Asked.{right_command, right_entry}
+use Rattle.book.specs.{declared.fault.StoreFault.StoreFault, declared.standing.Standing.Ghosts, Fault.IsOfStorage}
+use Rattle.book.specs.{History.Entry, History.History, Readers.Reader, Readers.Viewer, Rows.DepositRow, Sound.Fits}
+use Rattle.book.specs.{Sound.FitsRight, Entries.Appends, Stands.Stands, Stands.OnlyLooks}
+use Rattle.book.specs.declared.fault.StoreFault.TheVariants as store
 use Rattle.desk.specs.Command.{Setting, Answer, Done, Refused}
 use Rattle.desk.specs.Effects.{Effect, only, unless, fault_of, objection, accepted, unless_against, right_effect}
-use Rattle.desk.specs.auxiliary.Obstacles.{fault_with, hindered, outcome_with, IsOfRight, IsOfSight, IsOpposed, IsUnseen}
+use Rattle.desk.specs.auxiliary.Obstacles.{fault_with, hindered, outcome_with, IsOfRight, IsOfSight, IsOpposed}
+use Rattle.desk.specs.auxiliary.Obstacles.{IsUnseen}
 use Rattle.desk.specs.auxiliary.Obstacles.{told_with, MayName, MayNot, Owns}
 use Rattle.desk.specs.Outcome.{Call, Fine, OutOfMemory, Failed, Outcome, Cause, OfMemory, OfStore, cause_of}
-use Rattle.desk.specs.Outcome.{faults_after}
-use Rattle.desk.specs.Outcome.{all_fine}
-use Rattle.desk.specs.MachineStep.{HasEffect}
-use Rattle.desk.specs.Fit.{IsFit}
 use Rattle.desk.specs.CallContract.{no_signer, IsBlamed, IsOpened, StepsBy, committed}
-use Rattle.desk.specs.Shown.{done_as}
-use Rattle.desk.specs.Viewers.{viewer_in}
-use Rattle.desk.specs.declared.fault.Fault.{Fault}
-use Rattle.desk.specs.declared.fault.Fault.TheVariants as fault
-use Rattle.desk.specs.declared.obstacle.Obstacle.{Obstacle}
-use Rattle.desk.specs.declared.obstacle.Obstacle.TheVariants as obstacle
-use Rattle.desk.specs.declared.rights.Change.{Change}
 use Rattle.desk.specs.declared.rights.Change.TheVariants.{Give, Take}
-use Rattle.desk.proofs.documents.Denied.{denied}
+use Rattle.desk.specs.{Asked.right_command, Asked.right_entry, Outcome.faults_after, Outcome.all_fine}
+use Rattle.desk.specs.{MachineStep.HasEffect, Fit.IsFit, Shown.done_as, Viewers.viewer_in, declared.fault.Fault.Fault}
+use Rattle.desk.specs.{declared.obstacle.Obstacle.Obstacle, declared.rights.Change.Change}
+use Rattle.desk.specs.declared.fault.Fault.TheVariants as fault
+use Rattle.desk.specs.declared.obstacle.Obstacle.TheVariants as obstacle
 use Rattle.desk.proofs.calls.Fits.{by_storage, none_failed}
-use Rattle.desk.proofs.stamps.Beginnings.{one_in_doubt}
-use Rattle.desk.proofs.documents.Sighted.{may_see}
-use Rattle.desk.proofs.journeys.StepFacts.{right_seen}
-use Rattle.desk.proofs.calls.Wrapped.{wrapped}
+use Rattle.desk.proofs.{documents.Denied.denied, stamps.Beginnings.one_in_doubt, documents.Sighted.may_see}
+use Rattle.desk.proofs.{journeys.StepFacts.right_seen, calls.Wrapped.wrapped}
 
 -- what stands in the way of seeing a deposit, stands in the way of its rights
 pub unseen_named : (file : PolicyValue) (account : List ℕ) (reader : Reader) (n : ℕ) (b : History) (x : Obstacle)

@@ -1,32 +1,23 @@
 -- What is looked up before a deposit: too many octets, a reference that is used, or one that isn't.
 use Rattle.std.proofs.Common.{◌≡◌, ℕ, ◌<◌, nat_le, cond, ℤ, Bool, true, false, List, [], Option, Some, None, Result, Ok}
 use Rattle.std.proofs.Common.{length, refl, sym, ap, ◌∙◌, subst, inl, inr, arith}
-use Rattle.std.specs.Str.{bytes_eq}
 use Rattle.std.proofs.lemmas.Bool.Decides.{nat_tests}
-use Rattle.book.specs.declared.standing.Standing.{Ghosts}
-use Rattle.policy.specs.Record.{AccountValue}
-use Rattle.cms.specs.Signer.{count_after}
-use Rattle.cms.specs.declared.signer.SignerFault.{SignerFault}
+use Rattle.std.specs.Str.{bytes_eq}
 use Rattle.book.specs.Fault.{count_after as count_with, IsOfStorage}
-use Rattle.book.specs.History.{History, deposit_under}
-use Rattle.book.specs.Rows.{DepositRow}
-use Rattle.book.specs.Stands.{Stands, OnlyLooks}
-use Rattle.book.specs.declared.fault.StoreFault.{StoreFault}
+use Rattle.book.specs.{declared.standing.Standing.Ghosts, History.History, History.deposit_under, Rows.DepositRow}
+use Rattle.book.specs.{Stands.Stands, Stands.OnlyLooks, declared.fault.StoreFault.StoreFault}
+use Rattle.policy.specs.Record.{AccountValue}
+use Rattle.cms.specs.{Signer.count_after, declared.signer.SignerFault.SignerFault}
 use Rattle.book.specs.declared.fault.StoreFault.TheVariants as store
-use Rattle.desk.specs.Calls.{call_of, store_cause}
 use Rattle.desk.specs.Command.{Setting, Command, Stamp, Begin, Finish, Abandon, Deposit, Show, Token, ListAll, Grant}
 use Rattle.desk.specs.Command.{Revoke, Calibrate, Hold, Succeed, Answer, Stamped, Rejected, Begun, Kept, Shown, Listed}
-use Rattle.desk.specs.Command.{Done, Numbered, Refused}
-use Rattle.desk.specs.Fit.{IsFit}
-use Rattle.desk.specs.auxiliary.NewDeposit.{known_in, IsUnused}
-use Rattle.desk.specs.Effects.{only, fault_of, too_large}
-use Rattle.desk.specs.Outcome.{Outcome, faults_after, all_fine}
 use Rattle.desk.specs.MachineStep.{HasEffect, KeepsWithinSize, KeepsOnceSearched, KeepsByReference}
 use Rattle.desk.specs.CallContract.{StepsBy, StepsWhere, IsBlamed, IsBlamedFor, IsExcused, IsOpened, SignerStep}
-use Rattle.desk.specs.CallContract.{with_signer}
-use Rattle.desk.specs.declared.new_deposit.Known.{Known}
+use Rattle.desk.specs.{Calls.call_of, Calls.store_cause, Command.Done, Command.Numbered, Command.Refused, Fit.IsFit}
+use Rattle.desk.specs.{auxiliary.NewDeposit.known_in, auxiliary.NewDeposit.IsUnused, Effects.only, Effects.fault_of}
+use Rattle.desk.specs.{Effects.too_large, Outcome.Outcome, Outcome.faults_after, Outcome.all_fine}
+use Rattle.desk.specs.{CallContract.with_signer, declared.new_deposit.Known.Known, declared.fault.Fault.Fault}
 use Rattle.desk.specs.declared.new_deposit.Known.TheVariants as known
-use Rattle.desk.specs.declared.fault.Fault.{Fault}
 use Rattle.desk.specs.declared.fault.Fault.TheVariants as fault
 use Rattle.desk.proofs.calls.Fits.{by_storage, none_failed}
 use Rattle.desk.proofs.stamps.Judgement.{same_cause, same_count}

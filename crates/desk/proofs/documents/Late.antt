@@ -1,16 +1,12 @@
 -- The rules that may refuse a deposit: 3 to 11.
 use Rattle.std.proofs.Common.{Option, arith}
 use Rattle.policy.specs.Record.{AccountValue, PolicyValue}
-use Rattle.tsp.specs.Request.{RequestValue}
-use Rattle.tsp.specs.Rules.{HasVersionOne, IsFirstFailing}
-use Rattle.tsp.specs.declared.rule.Rule.{Rule}
 use Rattle.tsp.specs.declared.rule.Rule.TheVariants.{Spelling, Version, Account, Algorithm, HashLength, Policy}
 use Rattle.tsp.specs.declared.rule.Rule.TheVariants.{PolicyAlgorithm, Extensions, Certificate, Clock, Quota, System}
-use Rattle.decide.specs.Rules.{Holds, HoldsOf}
-use Rattle.decide.specs.declared.facts.Facts.{Facts}
-use Rattle.desk.specs.Fault.{IsLate, IsOfDeposit}
-use Rattle.desk.specs.Effects.{fault_of}
+use Rattle.tsp.specs.{Request.RequestValue, Rules.HasVersionOne, Rules.IsFirstFailing, declared.rule.Rule.Rule}
+use Rattle.decide.specs.{Rules.Holds, Rules.HoldsOf, declared.facts.Facts.Facts}
 use Rattle.desk.specs.Outcome.{Cause, OfMemory, OfStore, OfSigner}
+use Rattle.desk.specs.{Fault.IsLate, Fault.IsOfDeposit, Effects.fault_of}
 
 -- a rule fails first of a request of version 1
 pub late_of : (file : PolicyValue) (account : Option AccountValue) (r : RequestValue) (rule : Rule) → HasVersionOne r

@@ -1,24 +1,18 @@
 -- A deposit of new octets is a stamp, whose token is kept with it.
 use Rattle.std.proofs.Common.{◌≡◌, ℕ, ◌≤◌, nat_le, ℤ, Bool, true, List, length, Option, Some, None, refl, sym}
-use Rattle.std.proofs.Common.{◌∙◌, ap, subst, arith}
-use Rattle.std.proofs.lemmas.Bool.Decides.{nat_tests}
-use Rattle.book.specs.declared.standing.Standing.{Ghosts}
+use Rattle.std.proofs.{Common.◌∙◌, Common.ap, Common.subst, Common.arith, lemmas.Bool.Decides.nat_tests}
+use Rattle.book.specs.{declared.standing.Standing.Ghosts, History.History, History.deposit_under}
 use Rattle.std.specs.Prelude.{IfSome}
 use Rattle.sha2.specs.Sha256.{sha256}
 use Rattle.policy.specs.Record.{AccountValue, PolicyValue}
 use Rattle.tsp.specs.Request.{RequestValue, Spells, sha256_request}
-use Rattle.book.specs.History.{History, deposit_under}
 use Rattle.desk.specs.Outcome.{Fine, Outcome, Refusal, ByRule, ByCause, cause_of}
-use Rattle.desk.specs.Findings.{Finding, Finds}
-use Rattle.desk.specs.Command.{Setting, Deposit, Refused}
-use Rattle.desk.specs.Texts.{gives_certificate, request_for, octets_for}
 use Rattle.desk.specs.Effects.{for_deposit, deposit_found, refused_for, fault_by}
 use Rattle.desk.specs.MachineStep.{HasEffect, KeepsWithinSize, KeepsOnceSearched, KeepsByReference}
 use Rattle.desk.specs.auxiliary.NewDeposit.{octets_of, question_of, IsUnused, FailsLate}
-use Rattle.desk.specs.Fault.{IsOfDeposit}
-use Rattle.desk.proofs.documents.Late.{by_cause}
-use Rattle.desk.proofs.stamps.Stamps.{IsStamp}
-use Rattle.desk.proofs.journeys.Views.{fits_seal}
+use Rattle.desk.specs.{Findings.Finding, Findings.Finds, Command.Setting, Command.Deposit, Command.Refused}
+use Rattle.desk.specs.{Texts.gives_certificate, Texts.request_for, Texts.octets_for, Fault.IsOfDeposit}
+use Rattle.desk.proofs.{documents.Late.by_cause, stamps.Stamps.IsStamp, journeys.Views.fits_seal}
 
 -- the request as which a deposit is stamped
 pub request_is : (file : PolicyValue) (a : AccountValue) (bytes digest : List ℕ) (certificate : Bool)

@@ -1,19 +1,13 @@
 -- Who sees a deposit, and whom the policy file names.
 use Rattle.std.proofs.Common.{◌≡◌, ℕ, ◌==◌, ◌||◌, cond, Bool, true, false, is_some, List, [], ◌∷◌, map, Option, Some}
-use Rattle.std.proofs.Common.{None, refl, ap, ◌∙◌, subst}
-use Rattle.std.specs.List.{find}
-use Rattle.std.specs.Option.{option_and_then, option_map}
-use Rattle.std.specs.Str.{bytes_eq}
-use Rattle.std.proofs.lemmas.Bool.{eqb-true}
-use Rattle.policy.specs.Record.{AccountValue, PolicyValue}
-use Rattle.policy.specs.Kinds.{is_among}
-use Rattle.policy.specs.LookUp.{account_named}
-use Rattle.book.specs.Rows.{DepositRow, StampRow}
+use Rattle.std.proofs.{Common.None, Common.refl, Common.ap, Common.◌∙◌, Common.subst, lemmas.Bool.eqb-true}
+use Rattle.std.specs.{List.find, Option.option_and_then, Option.option_map, Str.bytes_eq}
+use Rattle.policy.specs.{Record.AccountValue, Record.PolicyValue, Kinds.is_among, LookUp.account_named}
 use Rattle.book.specs.History.{Entry, Reserved, Sealed, Deposited, Calibrated, Held, Granted, Revoked, History}
 use Rattle.book.specs.History.{Installed, ReservationValue, stamp_of, token_of, reservation_at, deposit_at}
-use Rattle.book.specs.Readers.{Viewer}
 use Rattle.book.specs.Rights.{may_read, shown_to, seen_by, is_visible, deposit_with_stamp}
 use Rattle.book.specs.Sound.{Along, Fits, FitsSealed, IsSound}
+use Rattle.book.specs.{Rows.DepositRow, Rows.StampRow, Readers.Viewer}
 use Rattle.desk.specs.Effects.{has_account}
 use Rattle.desk.proofs.journeys.Views.{reservation_stays}
 

@@ -1,27 +1,21 @@
 -- What is shown and listed is exactly what the account may see.
-use Rattle.std.proofs.Common.{arith, Contains, ◌≡◌, ℕ, zero, suc, ◌<◌, ◌≤◌, ◌+◌, ◌==◌, ◌||◌, cond, Bool, true, false, List}
+use Rattle.std.proofs.Common.{arith, Contains, ◌≡◌, ℕ, zero, suc, ◌<◌, ◌≤◌, ◌+◌, ◌==◌, ◌||◌, cond, Bool, true, false}
+use Rattle.std.proofs.Common.{List}
 use Rattle.std.proofs.Common.{[], ◌∷◌, map, filter_map, Option, Some, None, refl, sym, ◌∙◌, ap, subst, inl, inr, ◌⊎◌}
+use Rattle.std.proofs.{lemmas.Bool.eqb-true, lemmas.Bool.Decides.nat_tests, lemmas.Slice.Eq.bytes_eq-Decides}
 use Rattle.std.specs.List.{AllByRecursion, find, range_with_len}
-use Rattle.std.specs.Option.{option_and_then, option_map}
-use Rattle.std.specs.Str.{bytes_eq}
-use Rattle.std.proofs.lemmas.Bool.{eqb-true}
-use Rattle.std.proofs.lemmas.Bool.Decides.{nat_tests}
-use Rattle.std.proofs.lemmas.Slice.Eq.{bytes_eq-Decides}
+use Rattle.std.specs.{Option.option_and_then, Option.option_map, Str.bytes_eq}
 use Rattle.book.specs.History.{Reserved, Sealed, Deposited, Calibrated, Held, Granted, Revoked, Installed, History}
 use Rattle.book.specs.History.{ReservationValue, deposits, deposit_at, reservation_at, token_of, greatest_serial}
-use Rattle.book.specs.Readers.{Viewer}
 use Rattle.book.specs.Rights.{ListedValue, may_read, shown_to, seen_by, listed_as, listed_at, listed}
-use Rattle.book.specs.Rows.{DepositRow}
-use Rattle.book.specs.Sound.{Along, Fits, IsSound}
+use Rattle.book.specs.{Readers.Viewer, Rows.DepositRow, Sound.Along, Sound.Fits, Sound.IsSound}
 use Rattle.desk.specs.Command.{Setting, Command, Stamp, Begin, Finish, Abandon, Deposit, Show, Token, ListAll, Grant}
 use Rattle.desk.specs.Command.{Revoke, Calibrate, Hold, Succeed, Shown, Listed, Refused}
 use Rattle.desk.specs.Effects.{Effect, only, unless, fault_of, no_sight, show_effect, token_effect, reply_or_nothing}
 use Rattle.desk.specs.Outcome.{Call, Fine, OutOfMemory, Failed, Outcome, Cause, OfMemory, OfStore, OfSigner, cause_of}
-use Rattle.desk.specs.Outcome.{first_cause}
 use Rattle.desk.specs.Sight.{MaySee, HasNoSight, IsShownFrom, IsBytesOf, IsReplyOf, IsRowOf, Climbs}
 use Rattle.desk.specs.Sight.{IsListedFrom, ShowsExactly}
-use Rattle.desk.specs.MachineStep.{HasEffect}
-use Rattle.desk.specs.Viewers.{viewer_in}
+use Rattle.desk.specs.{Outcome.first_cause, MachineStep.HasEffect, Viewers.viewer_in}
 use Rattle.desk.proofs.documents.Shows.{deposit_reserved}
 use Rattle.desk.proofs.journeys.Views.{deposit_sealed, reserved_below, same_octets}
 

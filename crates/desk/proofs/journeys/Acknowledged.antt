@@ -4,34 +4,25 @@ use Rattle.std.proofs.Common.{◌∷◌, ◌++◌, drop, length, Option, Some, N
 use Rattle.book.specs.Continuation.{Floor, continued}
 use Rattle.book.specs.History.{Entry, Reserved, Sealed, Deposited, Calibrated, Held, Granted, Revoked, History}
 use Rattle.book.specs.History.{Installed, InstalledValue, calibrations, holds, latest_calibration, token_of}
-use Rattle.book.specs.History.{ReservationValue}
-use Rattle.book.specs.Identities.{latest_identity}
-use Rattle.book.specs.Readers.{Reader, is_same}
-use Rattle.book.specs.Rights.{is_reader, seen_by}
-use Rattle.book.specs.Sound.{Along, is_backwards}
+use Rattle.book.specs.{History.ReservationValue, Identities.latest_identity, Readers.Reader, Readers.is_same}
+use Rattle.book.specs.{Rights.is_reader, Rights.seen_by, Sound.Along, Sound.is_backwards}
 use Rattle.book.proofs.Rights.{reader_after_grant, reader_after_revocation}
-use Rattle.desk.specs.Outcome.{Outcome, Cause, cause_of}
 use Rattle.desk.specs.Findings.{StampPlan, Finding, Fails, Unanswered, Allowed}
-use Rattle.desk.specs.Command.{InForce, Setting, Command, Stamp, Begin, Finish, Abandon, Deposit, Show, Token, ListAll, Grant}
+use Rattle.desk.specs.Command.{InForce, Setting, Command, Stamp, Begin, Finish, Abandon, Deposit, Show, Token, ListAll}
+use Rattle.desk.specs.Command.{Grant}
 use Rattle.desk.specs.Command.{Revoke, Calibrate, Hold, Succeed, Answer, Done, Refused}
-use Rattle.desk.specs.Texts.{octets_for}
 use Rattle.desk.specs.Effects.{Effect, only, unless, no_number, no_seal}
-use Rattle.desk.specs.Effects.{begin_effect, begin_found, finish_effect}
-use Rattle.desk.specs.Effects.{right_effect}
 use Rattle.desk.specs.Effects.{accepted, numbered, succeed_effect, calibrate_effect, name_of}
-use Rattle.desk.specs.Succession.{installed_by, is_latest}
-use Rattle.desk.specs.declared.fault.Fault.{Fault}
-use Rattle.desk.specs.declared.fault.Fault.TheVariants as fault
-use Rattle.desk.specs.MachineStep.{HasEffect}
 use Rattle.desk.specs.MachineRuns.{Told, Journey, begins, opens, opens_older, shuts, rests, enters, breaks, goes, stops}
-use Rattle.desk.specs.MachineRuns.{continues}
-use Rattle.desk.specs.Readers.{where_done, rights_by, rights_along}
-use Rattle.desk.specs.Viewers.{viewer_in}
+use Rattle.desk.specs.Effects.{Purpose, purpose_found, next_reservation, for_reply, for_deposit}
+use Rattle.desk.specs.{Outcome.Outcome, Outcome.Cause, Outcome.cause_of, Texts.octets_for, Effects.begin_effect}
+use Rattle.desk.specs.{Effects.begin_found, Effects.finish_effect, Effects.right_effect, Succession.installed_by}
+use Rattle.desk.specs.{Succession.is_latest, declared.fault.Fault.Fault, MachineStep.HasEffect, MachineRuns.continues}
+use Rattle.desk.specs.{Readers.where_done, Readers.rights_by, Readers.rights_along, Viewers.viewer_in}
+use Rattle.desk.specs.declared.fault.Fault.TheVariants as fault
 use Rattle.desk.proofs.journeys.Branches.{if_has, unless_has, right_has}
 use Rattle.desk.proofs.journeys.StepFacts.{shows_none, tokens_none, answers_none}
-use Rattle.desk.proofs.journeys.WholeOn.{goes_along}
-use Rattle.desk.specs.Effects.{Purpose, purpose_found, next_reservation, for_reply, for_deposit}
-use Rattle.desk.proofs.journeys.Branches.{stamp_has, deposit_has}
+use Rattle.desk.proofs.{journeys.WholeOn.goes_along, journeys.Branches.stamp_has, journeys.Branches.deposit_has}
 
 -- entries that are the same to each reader of each deposit
 abbrev SameRights : List Entry → List Entry → Type 0

@@ -1,39 +1,25 @@
 -- Histories that agree for an account agree again after its commands.
 use Rattle.std.proofs.Common.{◌≡◌, ℕ, ◌<◌, ◌==◌, ◌||◌, ◌⊎◌, max, nat_le, cond, Bool, true, false, List, []}
 use Rattle.std.proofs.Common.{◌∷◌, ◌++◌, length, Option, Some, None, refl, sym, ◌∙◌, ap, subst, inl}
-use Rattle.std.proofs.Common.{inr, arith}
-use Rattle.std.specs.Prelude.{filter, map, option_map}
-use Rattle.std.specs.Option.{option_and_then}
-use Rattle.std.specs.Str.{bytes_eq}
 use Rattle.std.proofs.lemmas.Bool.{eq-eqb, eqb-true}
-use Rattle.std.proofs.lemmas.Slice.Eq.{bytes_eq-Decides}
+use Rattle.std.proofs.{Common.inr, Common.arith, lemmas.Slice.Eq.bytes_eq-Decides}
+use Rattle.std.specs.{Prelude.filter, Prelude.map, Prelude.option_map, Option.option_and_then, Str.bytes_eq}
 use Rattle.policy.specs.Record.{AccountValue, PolicyValue}
-use Rattle.book.specs.Rows.{StampRow, DepositRow}
 use Rattle.book.specs.History.{Entry, Reserved, Sealed, Deposited, Granted, Revoked, History, ReservationValue}
 use Rattle.book.specs.History.{reservations, stamps, stamp_of, greatest_serial, token_of, reservation_at, deposit_at}
-use Rattle.book.specs.Readers.{Reader, Viewer}
-use Rattle.book.specs.Rights.{seen_by, shown_to, may_read, listed}
-use Rattle.book.specs.Sound.{Along, Fits}
-use Rattle.book.specs.Values.{deposit_of}
-use Rattle.desk.specs.Agreement.{SeenValue, seen_as, Agree, IsCommandOf}
-use Rattle.desk.specs.Outcome.{Outcome, cause_of}
-use Rattle.desk.specs.Findings.{StampPlan, Finding}
+use Rattle.book.specs.{Rows.StampRow, Rows.DepositRow, Readers.Reader, Readers.Viewer, Rights.seen_by, Rights.shown_to}
+use Rattle.book.specs.{Rights.may_read, Rights.listed, Sound.Along, Sound.Fits, Values.deposit_of}
 use Rattle.desk.specs.Command.{Setting, Command, Stamp, Begin, Finish, Abandon, Deposit, Show, Token}
 use Rattle.desk.specs.Command.{ListAll, Grant, Revoke, Calibrate, Hold, Succeed, Listed}
-use Rattle.desk.specs.Texts.{octets_for}
-use Rattle.desk.specs.Effects.{Effect, unless}
-use Rattle.desk.specs.Effects.{next_reservation}
-use Rattle.desk.specs.Effects.{right_effect, no_sight}
-use Rattle.desk.specs.MachineStep.{HasEffect}
+use Rattle.desk.specs.{Effects.Effect, Effects.unless, Effects.next_reservation, Effects.right_effect, Effects.no_sight}
+use Rattle.desk.specs.{Agreement.SeenValue, Agreement.seen_as, Agreement.Agree, Agreement.IsCommandOf, Effects.Purpose}
+use Rattle.desk.specs.{Effects.purpose_found, Effects.for_reply, Effects.for_deposit, Outcome.Outcome, Outcome.cause_of}
+use Rattle.desk.specs.{Findings.StampPlan, Findings.Finding, Texts.octets_for, MachineStep.HasEffect, Viewers.viewer_in}
 use Rattle.desk.proofs.journeys.Views.{unsealed_above, sealed_below, deposit_sealed}
-use Rattle.desk.specs.Viewers.{viewer_in}
-use Rattle.desk.proofs.journeys.Branches.{unless_has, right_has}
 use Rattle.desk.proofs.journeys.Readers.{IsOwn, owner_sees, seen_after_grant, seen_after_revocation}
-use Rattle.desk.proofs.journeys.SameEffect.{seen_same}
-use Rattle.desk.proofs.documents.Sighted.{may_see}
 use Rattle.desk.proofs.journeys.StepFacts.{right_seen, shows_none, tokens_none, answers_none}
-use Rattle.desk.specs.Effects.{Purpose, purpose_found, for_reply, for_deposit}
-use Rattle.desk.proofs.journeys.Branches.{stamp_has, deposit_has}
+use Rattle.desk.proofs.{journeys.Branches.unless_has, journeys.Branches.right_has, journeys.SameEffect.seen_same}
+use Rattle.desk.proofs.{documents.Sighted.may_see, journeys.Branches.stamp_has, journeys.Branches.deposit_has}
 
 differ_by : (m n : ℕ) (same : Bool) → (m == n) ≡ same → n < m → same ≡ false
 differ_by m n true e h = let number : m ≡ n = eqb-true m n e in absurd (omega arith)

@@ -3,14 +3,11 @@ use Rattle.std.proofs.Common.{◌≡◌, cond, ℤ, Bool, true, false, List, ℕ
 use Rattle.std.proofs.Common.{subst}
 use Rattle.std.specs.Str.{bytes_eq}
 use Rattle.policy.specs.Record.{AccountValue, PolicyValue}
-use Rattle.tsp.specs.Request.{Spells}
-use Rattle.tsp.specs.declared.rule.Rule.{Rule}
+use Rattle.tsp.specs.{Request.Spells, declared.rule.Rule.Rule}
 use Rattle.cms.specs.declared.signer.SignerFault.{SignerFault}
 use Rattle.cms.specs.declared.signer.SignerFault.TheVariants as signer
 use Rattle.book.specs.History.{Entry, History, ReservationValue, deposit_under}
-use Rattle.book.specs.Readers.{Reader}
-use Rattle.book.specs.Rows.{DepositRow}
-use Rattle.desk.specs.Command.{Setting, PendingValue, Refused}
+use Rattle.book.specs.{Readers.Reader, Rows.DepositRow}
 use Rattle.desk.specs.Outcome.{Outcome, Cause, OfMemory, OfSigner, cause_of}
 use Rattle.desk.specs.Findings.{StampPlan, Finding, Fails, Unanswered, Allowed, Finds}
 use Rattle.desk.specs.Texts.{pending_of, token_with, octets_for, request_for}
@@ -18,7 +15,7 @@ use Rattle.desk.specs.Effects.{Effect, only, unless, fault_of, objection, accept
 use Rattle.desk.specs.Effects.{Purpose, Void, Sealing, no_number, no_seal, next_reservation, sealed_or_void}
 use Rattle.desk.specs.Effects.{signed_or_void, stamping_of, purpose_effect, purpose_found, deposit_found, known_effect}
 use Rattle.desk.specs.MachineStep.{KeepsByReference, KeepsOnceSearched, KeepsWithinSize}
-use Rattle.desk.specs.declared.fault.Fault.{Fault}
+use Rattle.desk.specs.{Command.Setting, Command.PendingValue, Command.Refused, declared.fault.Fault.Fault}
 use Rattle.desk.specs.declared.fault.Fault.TheVariants as fault
 
 pub if_has : (P : Effect → Type 0) (t : Bool) (d e : Effect) → P d → P e → P (cond t d e)

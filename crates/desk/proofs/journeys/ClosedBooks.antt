@@ -7,33 +7,23 @@ use Rattle.std.specs.Str.{bytes_eq}
 use Rattle.gentime.specs.GenTime.{last_moment}
 use Rattle.policy.specs.Record.{AccountValue, CounterValue}
 use Rattle.decide.specs.Clock.{IsGood, now_at}
-use Rattle.book.specs.Continuation.{holds_all, is_closed}
 use Rattle.book.specs.History.{Entry, Reserved, Held, Granted, Revoked, Installed, History, CalibrationValue}
 use Rattle.book.specs.History.{InstalledValue, ReservationValue, first_of, greatest_of, latest_calibration}
-use Rattle.book.specs.History.{reservations, token_of}
-use Rattle.book.specs.Identities.{latest_identity}
-use Rattle.book.specs.Readers.{Reader}
-use Rattle.book.specs.Rights.{seen_by}
-use Rattle.book.specs.Rows.{DepositRow}
-use Rattle.book.specs.Sound.{is_backwards}
+use Rattle.book.specs.{Continuation.holds_all, Continuation.is_closed, History.reservations, History.token_of}
+use Rattle.book.specs.{Identities.latest_identity, Readers.Reader, Rights.seen_by, Rows.DepositRow, Sound.is_backwards}
 use Rattle.book.proofs.GoingOn.{all_held}
 use Rattle.desk.specs.Closed.{IsUngranted, IsUngrantedBy, GivesNothingOut, StaysClosed}
 use Rattle.desk.specs.Command.{Setting, Command, Stamp, Begin, Finish, Abandon, Deposit, Show, Token, ListAll, Grant}
 use Rattle.desk.specs.Command.{Revoke, Calibrate, Hold, Succeed, PendingValue, Answer, Stamped, Rejected, Begun, Kept}
 use Rattle.desk.specs.Command.{Shown, Listed, Done, Numbered, Refused}
-use Rattle.tsp.specs.declared.rule.Rule.{Rule}
 use Rattle.desk.specs.Effects.{Effect, only, unless, fault_of, right_effect, accepted, show_effect, token_effect}
 use Rattle.desk.specs.Effects.{no_sight, no_seal, known_effect, succeed_effect, calibrate_effect}
 use Rattle.desk.specs.Effects.{Purpose, purpose_found, for_reply, for_deposit, begin_found, name_of, finish_effect}
-use Rattle.desk.specs.Facts.{clock_of, is_held_at, now_in}
 use Rattle.desk.specs.Findings.{Finding, Fails, Unanswered, Allowed, Finds}
-use Rattle.desk.specs.Outcome.{Outcome, Cause, cause_of}
-use Rattle.desk.specs.Serials.{given_by}
-use Rattle.desk.specs.MachineStep.{HasEffect, KeepsWithinSize}
-use Rattle.desk.specs.Succession.{installed_by, is_latest}
-use Rattle.desk.specs.Texts.{octets_for}
-use Rattle.desk.specs.Viewers.{viewer_in}
-use Rattle.desk.specs.declared.fault.Fault.{Fault}
+use Rattle.desk.specs.{Facts.clock_of, Facts.is_held_at, Facts.now_in, Outcome.Outcome, Outcome.Cause, Outcome.cause_of}
+use Rattle.desk.specs.{Serials.given_by, MachineStep.HasEffect, MachineStep.KeepsWithinSize, Succession.installed_by}
+use Rattle.desk.specs.{Succession.is_latest, Texts.octets_for, Viewers.viewer_in, declared.fault.Fault.Fault}
+use Rattle.tsp.specs.declared.rule.Rule.{Rule}
 use Rattle.desk.specs.declared.fault.Fault.TheVariants as fault
 use Rattle.desk.proofs.journeys.Branches.{if_has, unless_has, right_has, deposit_has}
 

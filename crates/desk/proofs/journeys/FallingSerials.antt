@@ -2,18 +2,14 @@
 use Rattle.std.proofs.Common.{ℕ, ◌<◌, ◌≤◌, List, [], ◌∷◌, ◌++◌, Option, Some, None, drop, arith}
 use Rattle.std.specs.List.{AllByRecursion}
 use Rattle.book.specs.History.{Entry, Reserved, Sealed, Deposited, Calibrated, Held, Granted, Revoked, History}
-use Rattle.book.specs.History.{Installed, greatest_serial}
 use Rattle.book.specs.Continuation.{Floor, IsAboveIfAny, continued}
-use Rattle.book.specs.Sound.{Along, Fits, IsSound}
+use Rattle.book.specs.{History.Installed, History.greatest_serial, Sound.Along, Sound.Fits, Sound.IsSound}
 use Rattle.book.proofs.GoingOn.{floor_goes_on, greatest_goes_on}
 use Rattle.desk.specs.Command.{Setting, Answer, Stamped, Rejected, Begun, Kept, Shown, Listed, Done, Numbered, Refused}
-use Rattle.desk.specs.Command.{setting_after}
 use Rattle.desk.specs.MachineRuns.{Told, Journey, begins, opens, opens_older, shuts, rests, enters, breaks, goes, stops}
-use Rattle.desk.specs.MachineRuns.{after, cut}
-use Rattle.desk.specs.MachineRuns.{continues}
 use Rattle.desk.specs.Serials.{serials_of, given_by, given_along, Falls, AreInOrder}
-use Rattle.desk.proofs.journeys.Sound.{TextLaws}
-use Rattle.desk.proofs.journeys.KeptPromises.{sound_along}
+use Rattle.desk.specs.{Command.setting_after, MachineRuns.after, MachineRuns.cut, MachineRuns.continues}
+use Rattle.desk.proofs.{journeys.Sound.TextLaws, journeys.KeptPromises.sound_along}
 
 within_more : (m n : ℕ) → m ≤ n → (ns : List ℕ) → AllByRecursion (λ k. k ≤ m) ns → AllByRecursion (λ k. k ≤ n) ns
 within_more m n le [] h = tt

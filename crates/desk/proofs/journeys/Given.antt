@@ -1,38 +1,28 @@
 -- What is given out to be signed is over the reservation that the same command adds first.
 use Rattle.std.proofs.Common.{arith, ◌≡◌, ℕ, ◌+◌, ◌<◌, nat_le, cond, Bool, true, false, List, [], ◌∷◌, ◌++◌, length}
 use Rattle.std.proofs.Common.{Option, Some, None, refl, sym, ◌∙◌, ap, subst}
+use Rattle.std.proofs.lemmas.Bool.{eq-eqb}
 use Rattle.std.specs.Str.{bytes_eq}
 use Rattle.cms.specs.SignedData.{attribute_text}
 use Rattle.book.specs.History.{Entry, Reserved, Sealed, Deposited, Calibrated, Held, Granted, Revoked, History}
 use Rattle.book.specs.History.{ReservationValue, greatest_serial, latest_calibration, token_of}
 use Rattle.book.specs.History.{Installed, InstalledValue, calibrations, holds}
 use Rattle.book.specs.Identities.{latest_identity, identity_at_reservation}
-use Rattle.std.proofs.lemmas.Bool.{eq-eqb}
-use Rattle.book.specs.Rights.{seen_by, listed}
-use Rattle.book.specs.Rows.{DepositRow}
-use Rattle.book.specs.Sound.{is_backwards}
-use Rattle.book.specs.Values.{deposit_of}
-use Rattle.desk.specs.Outcome.{Outcome, Cause, cause_of}
+use Rattle.book.specs.{Rights.seen_by, Rights.listed, Rows.DepositRow, Sound.is_backwards, Values.deposit_of}
 use Rattle.desk.specs.Findings.{StampPlan, Finding, Fails, Unanswered, Allowed}
 use Rattle.desk.specs.Command.{Setting, PendingValue, Command, Stamp, Begin, Finish, Abandon, Deposit, Show, Token}
 use Rattle.desk.specs.Command.{ListAll, Grant, Revoke, Calibrate, Hold, Succeed, Answer, Begun, Kept, Listed, Shown}
-use Rattle.desk.specs.Command.{Done, Numbered, Refused}
-use Rattle.desk.specs.Texts.{octets_for, pending_of}
 use Rattle.desk.specs.Effects.{Effect, only, Stamping, Unreserved, Void, Sealing, no_number, no_seal, no_sight}
 use Rattle.desk.specs.Effects.{next_reservation, stamping_of, stamp_effect, stamp_found, begin_effect, begin_found}
 use Rattle.desk.specs.Effects.{finish_effect, deposit_effect, deposit_found, show_effect}
 use Rattle.desk.specs.Effects.{token_effect, reply_or_nothing, right_effect, calibrate_effect, name_of}
-use Rattle.desk.specs.Effects.{accepted, numbered, succeed_effect}
-use Rattle.desk.specs.Succession.{installed_by, is_latest}
-use Rattle.desk.specs.declared.fault.Fault.{Fault}
+use Rattle.desk.specs.{Succession.installed_by, Succession.is_latest, declared.fault.Fault.Fault, MachineStep.HasEffect}
+use Rattle.desk.specs.{Outcome.Outcome, Outcome.Cause, Outcome.cause_of, Effects.accepted, Effects.numbered}
+use Rattle.desk.specs.{Effects.succeed_effect, Command.Done, Command.Numbered, Command.Refused, Texts.octets_for}
+use Rattle.desk.specs.{Texts.pending_of, Laws.IsReservedText, Laws.IsPendingOf, Serials.serials_of, Viewers.viewer_in}
 use Rattle.desk.specs.declared.fault.Fault.TheVariants as fault
-use Rattle.desk.specs.MachineStep.{HasEffect}
-use Rattle.desk.specs.Laws.{IsReservedText, IsPendingOf}
-use Rattle.desk.specs.Serials.{serials_of}
-use Rattle.desk.proofs.journeys.Headline.{SealedBy, stamping_by}
-use Rattle.desk.specs.Viewers.{viewer_in}
 use Rattle.desk.proofs.journeys.Branches.{if_has, unless_has, right_has}
-use Rattle.desk.proofs.journeys.Branches.{deposit_has}
+use Rattle.desk.proofs.{journeys.Headline.SealedBy, journeys.Headline.stamping_by, journeys.Branches.deposit_has}
 
 -- what an effect gives out
 record IsGivenOut (s : Setting) (b : History) (e : Effect) : Type 0 where

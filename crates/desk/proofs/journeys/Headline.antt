@@ -2,30 +2,23 @@
 use Rattle.std.proofs.Common.{arith, Contains, ◌≡◌, ℕ, zero, suc, ◌≤◌, ◌+◌, ◌*◌, ◌-◌, ◌<◌, ◌⊎◌, ◌==◌, nat_le}
 use Rattle.std.proofs.Common.{if◌then◌else◌, ℤ, Bool, true, false, List, [], ◌∷◌, get_or, Option, Some, None, Result}
 use Rattle.std.proofs.Common.{Ok, Err, refl, sym, ◌∙◌, ap, subst, inl, inr}
-use Rattle.der.specs.Node.{encoding, length_octets}
-use Rattle.der.specs.Number.{number_content}
+use Rattle.std.proofs.lemmas.Bool.Decides.{nat_tests}
+use Rattle.der.specs.{Node.encoding, Node.length_octets, Number.number_content}
 use Rattle.policy.specs.Record.{AccountValue, PolicyValue}
-use Rattle.tsp.specs.Granted.{granted_octets}
 use Rattle.tsp.specs.Rejection.{number_of, rejection}
-use Rattle.tsp.specs.Rules.{IsFirstFailing}
-use Rattle.tsp.specs.declared.rule.Rule.{Rule}
 use Rattle.tsp.specs.declared.rule.Rule.TheVariants.{Spelling, Version, Account, Algorithm, HashLength, Policy}
 use Rattle.tsp.specs.declared.rule.Rule.TheVariants.{PolicyAlgorithm, Extensions, Certificate, Clock, Quota, System}
-use Rattle.cms.specs.SignedData.{attribute_text}
-use Rattle.cms.specs.declared.signer.SignerFault.{SignerFault}
+use Rattle.tsp.specs.{Granted.granted_octets, Rules.IsFirstFailing, declared.rule.Rule.Rule}
+use Rattle.cms.specs.{SignedData.attribute_text, declared.signer.SignerFault.SignerFault}
 use Rattle.cms.specs.declared.signer.SignerFault.TheVariants as signer
-use Rattle.book.specs.History.{History, ReservationValue, greatest_serial}
-use Rattle.book.specs.Sound.{greatest_number}
-use Rattle.std.proofs.lemmas.Bool.Decides.{nat_tests}
+use Rattle.book.specs.{History.History, History.ReservationValue, History.greatest_serial, Sound.greatest_number}
 use Rattle.desk.specs.Outcome.{Outcome, Cause, OfMemory, OfStore, OfSigner, cause_of, cause_of_signing, first_cause}
 use Rattle.desk.specs.Findings.{IsUnjudged, StampPlan, IsAllowed, HoldsAt, HoldsUnasked, Finding, Fails, Unanswered}
-use Rattle.desk.specs.Findings.{Allowed, Finds}
 use Rattle.desk.specs.Command.{Setting, PendingValue, Stamp, Answer, Stamped, Rejected}
-use Rattle.desk.specs.Texts.{pending_of, token_with, tst_of}
 use Rattle.desk.specs.Effects.{Effect, Stamping, Unreserved, Void, Sealing, no_number, no_seal, next_reservation}
 use Rattle.desk.specs.Effects.{sealed_or_void, signed_or_void, stamping_of, stamp_effect, stamp_found, name_of}
-use Rattle.desk.specs.MachineStep.{HasEffect}
-use Rattle.desk.specs.Laws.{causes_of, IsUnanswered, IsGrant, IsRejection}
+use Rattle.desk.specs.{Findings.Allowed, Findings.Finds, Texts.pending_of, Texts.token_with, Texts.tst_of}
+use Rattle.desk.specs.{MachineStep.HasEffect, Laws.causes_of, Laws.IsUnanswered, Laws.IsGrant, Laws.IsRejection}
 
 -- what is reserved is the next reservation; and what is sealed has the token over the signer's answer
 abbrev pub SealedBy : Setting → List ℕ → StampPlan → List ℕ → Outcome → History → Stamping → Type 0

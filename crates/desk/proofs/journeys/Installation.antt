@@ -1,33 +1,26 @@
 -- What is in force stays the identity that was installed last, and an opening brings it so.
 use Rattle.std.proofs.Common.{◌≡◌, ℕ, ◌+◌, ◌&&◌, nat_le, Bool, true, false, List, [], ◌∷◌, ◌++◌, length}
 use Rattle.std.proofs.Common.{Option, Some, None, refl, sym, ◌∙◌, ap, subst}
-use Rattle.std.specs.Str.{bytes_eq}
 use Rattle.std.proofs.lemmas.Slice.Eq.{bytes_eq-Decides}
+use Rattle.std.specs.Str.{bytes_eq}
 use Rattle.book.specs.History.{Reserved, Calibrated, Held, Granted, Revoked, Installed, InstalledValue, History}
-use Rattle.book.specs.History.{ReservationValue}
 use Rattle.book.specs.History.{calibrations, holds, latest_calibration, token_of}
 use Rattle.book.specs.Identities.{latest_identity}
-use Rattle.book.specs.Rights.{seen_by}
-use Rattle.book.specs.Sound.{is_backwards}
-use Rattle.book.specs.Values.{installed_of}
-use Rattle.desk.specs.Outcome.{Outcome, Cause, cause_of}
+use Rattle.book.specs.{History.ReservationValue, Rights.seen_by, Sound.is_backwards, Values.installed_of}
 use Rattle.desk.specs.Findings.{StampPlan, Finding, Fails, Unanswered, Allowed}
 use Rattle.desk.specs.Command.{InForce, Setting, Command, Stamp, Begin, Finish, Abandon, Deposit, Show, Token, ListAll}
 use Rattle.desk.specs.Command.{Grant, Revoke, Calibrate, Hold, Succeed, Done, Refused, brought, in_force_after}
-use Rattle.desk.specs.Texts.{octets_for}
 use Rattle.desk.specs.Effects.{Effect, only, unless, no_number, no_seal}
 use Rattle.desk.specs.Effects.{begin_effect, begin_found, finish_effect}
 use Rattle.desk.specs.Effects.{right_effect, accepted, numbered, succeed_effect}
-use Rattle.desk.specs.Effects.{calibrate_effect, name_of}
-use Rattle.desk.specs.declared.fault.Fault.{Fault}
-use Rattle.desk.specs.declared.fault.Fault.TheVariants as fault
-use Rattle.desk.specs.MachineStep.{HasEffect}
 use Rattle.desk.specs.Succession.{installed_by, is_latest, IsInForce}
-use Rattle.desk.specs.Viewers.{viewer_in}
+use Rattle.desk.specs.Effects.{Purpose, purpose_found, next_reservation, for_reply, for_deposit}
+use Rattle.desk.specs.{Outcome.Outcome, Outcome.Cause, Outcome.cause_of, Texts.octets_for, Effects.calibrate_effect}
+use Rattle.desk.specs.{Effects.name_of, declared.fault.Fault.Fault, MachineStep.HasEffect, Viewers.viewer_in}
+use Rattle.desk.specs.declared.fault.Fault.TheVariants as fault
 use Rattle.desk.proofs.journeys.Branches.{if_has, unless_has, right_has}
 use Rattle.desk.proofs.journeys.StepFacts.{shows_none, tokens_none, answers_none}
 use Rattle.desk.proofs.journeys.Views.{both_true, same_octets}
-use Rattle.desk.specs.Effects.{Purpose, purpose_found, next_reservation, for_reply, for_deposit}
 use Rattle.desk.proofs.journeys.Branches.{stamp_has, deposit_has}
 
 -- what an identity is told from others by

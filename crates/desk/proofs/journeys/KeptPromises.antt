@@ -1,60 +1,47 @@
 -- What was acknowledged still stands after each step, and journeys have their properties.
-use Rattle.std.proofs.Common.{arith, Contains, ◌≡◌, ℕ, zero, suc, ◌+◌, nat_le, cond, ℤ, Bool, true, false, List, [], ◌∷◌, ◌++◌}
+use Rattle.std.proofs.Common.{arith, Contains, ◌≡◌, ℕ, zero, suc, ◌+◌, nat_le, cond, ℤ, Bool, true, false, List, []}
+use Rattle.std.proofs.Common.{◌∷◌, ◌++◌}
 use Rattle.std.proofs.Common.{length, Option, Some, None, drop, refl, sym, ◌∙◌, ap, subst, ◌⊎◌, inl, inr}
-use Rattle.std.specs.List.{AllByRecursion}
 use Rattle.std.proofs.lemmas.Bool.{eq-eqb}
-use Rattle.std.specs.Str.{bytes_eq}
+use Rattle.std.specs.{List.AllByRecursion, Str.bytes_eq}
 use Rattle.policy.specs.Record.{AccountValue}
-use Rattle.cms.specs.Identity.{IdentityValue}
-use Rattle.cms.specs.SignedData.{token}
+use Rattle.cms.specs.{Identity.IdentityValue, SignedData.token}
 use Rattle.tsp.specs.Granted.{granted_octets}
-use Rattle.book.specs.Continuation.{Floor, IsAboveIfAny, continued}
 use Rattle.book.specs.History.{Entry, Reserved, Sealed, Deposited, Calibrated, Held, Granted, Revoked, Installed}
 use Rattle.book.specs.History.{CalibrationValue, HoldValue, InstalledValue, History, calibrations, holds, token_of}
-use Rattle.book.specs.History.{deposit_at}
 use Rattle.book.specs.History.{ReservationValue, reservation_at, latest_calibration}
-use Rattle.book.specs.Identities.{latest_identity, identity_at_reservation}
-use Rattle.book.specs.Rights.{seen_by, listed}
-use Rattle.book.specs.Rows.{DepositRow}
-use Rattle.book.specs.Sound.{Fits, IsSound, is_backwards}
-use Rattle.book.specs.Values.{deposit_of}
-use Rattle.desk.specs.Outcome.{Outcome, Cause, cause_of}
+use Rattle.book.specs.{Continuation.Floor, Continuation.IsAboveIfAny, Continuation.continued, History.deposit_at}
+use Rattle.book.specs.{Identities.latest_identity, Identities.identity_at_reservation, Rights.seen_by, Rights.listed}
+use Rattle.book.specs.{Rows.DepositRow, Sound.Fits, Sound.IsSound, Sound.is_backwards, Values.deposit_of}
 use Rattle.desk.specs.Findings.{StampPlan, Finding, Fails, Unanswered, Allowed}
 use Rattle.desk.specs.Command.{InForce, Setting, PendingValue, Command, Stamp, Begin, Finish, Abandon, Deposit, Show}
-use Rattle.desk.specs.Command.{Token}
 use Rattle.desk.specs.Command.{ListAll, Grant, Revoke, Calibrate, Hold, Succeed, Answer, Stamped, Rejected, Begun, Kept}
 use Rattle.desk.specs.Command.{Shown, Listed, Done, Numbered, Refused, brought, in_force_after, setting_after}
-use Rattle.desk.specs.Texts.{octets_for, pending_of, token_with}
 use Rattle.desk.specs.Effects.{Effect, only, unless, Stamping, Unreserved, Void, Sealing}
-use Rattle.desk.specs.Effects.{no_number, no_seal, next_reservation, stamping_of, stamp_effect, stamp_found, begin_effect, begin_found}
+use Rattle.desk.specs.Effects.{no_number, no_seal, next_reservation, stamping_of, stamp_effect, stamp_found}
+use Rattle.desk.specs.Effects.{begin_effect, begin_found}
 use Rattle.desk.specs.Effects.{finish_effect, deposit_effect, deposit_found, show_effect, token_effect}
 use Rattle.desk.specs.Effects.{reply_or_nothing, no_sight, accepted, numbered, right_effect, calibrate_effect}
-use Rattle.desk.specs.Effects.{succeed_effect, name_of}
-use Rattle.desk.specs.declared.fault.Fault.TheVariants as fault
-use Rattle.desk.specs.MachineStep.{KeepsWithinSize, HasEffect, IsMet}
 use Rattle.desk.specs.MachineRuns.{IsProper, Told, Journey, begins, opens, opens_older, shuts, rests, enters, breaks}
-use Rattle.desk.specs.MachineRuns.{goes, stops, after, cut}
-use Rattle.desk.specs.MachineRuns.{continues}
 use Rattle.desk.specs.MachineRuns.{IsEntering, IsNumbered, IsSignedUnder, IsTokenFor, IsReservedFor, IsFinishedFor}
-use Rattle.desk.specs.MachineRuns.{IsStampKept}
 use Rattle.desk.specs.MachineRuns.{IsTokenKept, IsDepositKept, IsShownKept, WasBegun, WasFinished}
 use Rattle.desk.specs.MachineRuns.{IsDoneKept, IsNumberKept, IsKept, HasProperties}
-use Rattle.desk.specs.Content.{IsSoundInFull}
-use Rattle.desk.specs.Continuation.{IsStatedIfAny}
-use Rattle.desk.specs.Names.{IsNameableFor}
 use Rattle.desk.specs.Succession.{installed_by, is_latest, HasSubject, IsNameable}
-use Rattle.desk.specs.Viewers.{viewer_in}
+use Rattle.desk.specs.{Outcome.Outcome, Outcome.Cause, Outcome.cause_of, Command.Token, Effects.succeed_effect}
+use Rattle.desk.specs.{Effects.name_of, MachineRuns.continues, MachineRuns.IsStampKept, Content.IsSoundInFull}
+use Rattle.desk.specs.{Texts.octets_for, Texts.pending_of, Texts.token_with, MachineStep.KeepsWithinSize}
+use Rattle.desk.specs.{MachineStep.HasEffect, MachineStep.IsMet, MachineRuns.goes, MachineRuns.stops, MachineRuns.after}
+use Rattle.desk.specs.{MachineRuns.cut, Continuation.IsStatedIfAny, Names.IsNameableFor, Viewers.viewer_in}
+use Rattle.desk.specs.declared.fault.Fault.TheVariants as fault
 use Rattle.desk.proofs.journeys.Branches.{if_has, unless_has, right_has, deposit_has}
-use Rattle.desk.proofs.journeys.Given.{just_found}
-use Rattle.desk.proofs.journeys.Headline.{SealedBy, stamping_by}
-use Rattle.desk.proofs.journeys.Installation.{IsOf, latest_where, in_force_kept, latest_kept, of_in_force, brought_in_force}
-use Rattle.desk.proofs.documents.Sighted.{may_see}
+use Rattle.desk.proofs.journeys.Installation.{IsOf, latest_where, in_force_kept, latest_kept, of_in_force}
+use Rattle.desk.proofs.journeys.Installation.{brought_in_force}
 use Rattle.desk.proofs.journeys.Views.{reservation_stays, identity_stays, token_stays, deposit_stays, deposit_sealed}
-use Rattle.desk.proofs.journeys.Views.{found_under, same_octets}
 use Rattle.desk.proofs.journeys.Sound.{TextLaws, AreGood, fits_along, true_along, rising_along, naming_along, good_cut}
-use Rattle.desk.proofs.journeys.Sound.{all_good}
 use Rattle.desk.proofs.journeys.StepFacts.{step_adds, adds_good}
-use Rattle.desk.proofs.journeys.WholeOn.{whole_on, rising_on}
+use Rattle.desk.proofs.{journeys.Given.just_found, journeys.Headline.SealedBy, journeys.Headline.stamping_by}
+use Rattle.desk.proofs.{documents.Sighted.may_see, journeys.Views.found_under, journeys.Views.same_octets}
+use Rattle.desk.proofs.{journeys.Sound.all_good, journeys.WholeOn.whole_on, journeys.WholeOn.rising_on}
 
 first_in : (e : Entry) (b : History) → Contains (e ∷ b) e
 first_in e b = (0, omega arith, refl)

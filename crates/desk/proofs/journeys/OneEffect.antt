@@ -2,27 +2,20 @@
 use Rattle.std.proofs.Common.{◌≡◌, ℕ, nat_le, ℤ, pos, Bool, true, false, List, length, Option, Some, None, sym}
 use Rattle.std.proofs.Common.{◌∙◌, ap, inl, inr}
 use Rattle.policy.specs.Record.{AccountValue, PolicyValue, CounterValue}
-use Rattle.tsp.specs.Request.{RequestValue}
-use Rattle.tsp.specs.Rules.{IsFirstFailing}
-use Rattle.tsp.specs.declared.rule.Rule.{Rule}
 use Rattle.tsp.specs.declared.rule.Rule.TheVariants.{Spelling, Version, Account, Algorithm, HashLength, Policy}
 use Rattle.tsp.specs.declared.rule.Rule.TheVariants.{PolicyAlgorithm, Extensions, Certificate, Clock, Quota, System}
-use Rattle.decide.specs.Rules.{policy_asked}
+use Rattle.tsp.specs.{Request.RequestValue, Rules.IsFirstFailing, declared.rule.Rule.Rule}
 use Rattle.decide.specs.Clock.{IsGood, IsGoodAt, gen_time, now_at}
-use Rattle.decide.specs.declared.facts.ClockFacts.{ClockFacts}
-use Rattle.book.specs.History.{History, deposit_under}
-use Rattle.book.specs.Rows.{DepositRow}
+use Rattle.decide.specs.{Rules.policy_asked, declared.facts.ClockFacts.ClockFacts}
+use Rattle.book.specs.{History.History, History.deposit_under, Rows.DepositRow}
 use Rattle.desk.specs.Outcome.{Outcome, Cause, Fine, cause_of}
 use Rattle.desk.specs.Findings.{StampPlan, IsAllowed, Finding, Fails, Unanswered, Allowed, Finds, HoldsAt, HoldsUnasked}
-use Rattle.desk.specs.Findings.{IsUnjudged, IsAnsweredFor}
 use Rattle.desk.specs.Command.{Setting, Command, Stamp, Begin, Finish, Abandon, Deposit, Show, Token, ListAll, Grant}
 use Rattle.desk.specs.Command.{Revoke, Calibrate, Hold, Succeed}
 use Rattle.desk.specs.Effects.{Effect, stamp_found, begin_found, deposit_found, name_of}
-use Rattle.desk.specs.Facts.{facts_of}
 use Rattle.desk.specs.MachineStep.{KeepsByReference, KeepsOnceSearched, KeepsWithinSize, HasEffect}
-use Rattle.desk.specs.Texts.{octets_for}
-use Rattle.desk.proofs.journeys.Headline.{one_first}
-use Rattle.desk.proofs.journeys.Sound.{TextLaws}
+use Rattle.desk.specs.{Findings.IsUnjudged, Findings.IsAnsweredFor, Facts.facts_of, Texts.octets_for}
+use Rattle.desk.proofs.{journeys.Headline.one_first, journeys.Sound.TextLaws}
 
 -- where a rule is found to fail, its judging lacked no answer
 judged : (file : PolicyValue) (account : Option AccountValue) (reading : ℤ) (octets : List ℕ) (o : Outcome)

@@ -1,37 +1,27 @@
 -- What another account's command leaves of what an account may know.
 use Rattle.std.proofs.Common.{◌≡◌, ℕ, ◌<◌, ◌≤◌, ◌==◌, ◌&&◌, ◌||◌, nat_le, cond, Bool, true, false, List, [], ◌∷◌}
 use Rattle.std.proofs.Common.{◌++◌, length, Option, Some, None, refl, sym, ◌∙◌, ap, subst, inl, inr, arith}
-use Rattle.std.specs.Prelude.{filter, map, option_map}
-use Rattle.std.specs.Option.{option_and_then}
-use Rattle.std.specs.Str.{bytes_eq}
 use Rattle.std.proofs.lemmas.Bool.{eqb-true}
-use Rattle.book.specs.Rows.{StampRow, DepositRow}
+use Rattle.std.specs.{Prelude.filter, Prelude.map, Prelude.option_map, Option.option_and_then, Str.bytes_eq}
 use Rattle.book.specs.History.{deposits, Reserved, Sealed, Deposited, Calibrated, Held, Granted, Revoked, Installed}
 use Rattle.book.specs.History.{History, ReservationValue, reservations, stamps, stamp_of, greatest_of, greatest_serial}
 use Rattle.book.specs.History.{token_of, reservation_at, deposit_at}
 use Rattle.book.specs.Readers.{Reader, is_same, Viewer}
 use Rattle.book.specs.Rights.{seen_by, shown_to, is_reader, may_read, listed}
+use Rattle.book.specs.{Rows.StampRow, Rows.DepositRow, Sound.Along, Sound.Fits, Sound.FitsRight, Values.deposit_of}
 use Rattle.book.proofs.Rights.{reader_after_grant, reader_after_revocation}
-use Rattle.book.specs.Sound.{Along, Fits, FitsRight}
-use Rattle.book.specs.Values.{deposit_of}
 use Rattle.desk.specs.Agreement.{SeenValue, seen_as, seen_at}
-use Rattle.desk.specs.Outcome.{Outcome, cause_of}
-use Rattle.desk.specs.Findings.{Finding}
 use Rattle.desk.specs.Command.{Setting, Command, Stamp, Begin, Finish, Abandon, Deposit, Show, Token, ListAll, Grant}
 use Rattle.desk.specs.Command.{Revoke, Calibrate, Hold, Succeed, Listed}
-use Rattle.desk.specs.Texts.{octets_for}
-use Rattle.desk.specs.Effects.{Effect, unless, next_reservation}
-use Rattle.desk.specs.Effects.{right_effect, no_sight}
-use Rattle.desk.specs.MachineStep.{HasEffect}
-use Rattle.desk.specs.Laws.{IsCommandOfOther, Concerns, StaysFor}
-use Rattle.desk.specs.Viewers.{viewer_in}
-use Rattle.desk.proofs.journeys.Readers.{nobody_reads, seen_beside_grant, seen_beside_revocation}
-use Rattle.desk.proofs.journeys.Views.{sealed_below, deposit_sealed}
-use Rattle.desk.proofs.journeys.StepFacts.{right_seen, shows_none, tokens_none, answers_none, IsAtMost, at_most_unless}
-use Rattle.desk.proofs.journeys.StepFacts.{right_at_most}
-use Rattle.desk.proofs.journeys.Agreement.{differ, seen_beside, next_above}
 use Rattle.desk.specs.Effects.{Purpose, purpose_found, for_reply, for_deposit}
+use Rattle.desk.specs.{Outcome.Outcome, Outcome.cause_of, Findings.Finding, Texts.octets_for, Effects.Effect}
+use Rattle.desk.specs.{Effects.unless, Effects.next_reservation, Effects.right_effect, Effects.no_sight}
+use Rattle.desk.specs.{MachineStep.HasEffect, Laws.IsCommandOfOther, Laws.Concerns, Laws.StaysFor, Viewers.viewer_in}
+use Rattle.desk.proofs.journeys.Readers.{nobody_reads, seen_beside_grant, seen_beside_revocation}
+use Rattle.desk.proofs.journeys.StepFacts.{right_seen, shows_none, tokens_none, answers_none, IsAtMost, at_most_unless}
+use Rattle.desk.proofs.journeys.Agreement.{differ, seen_beside, next_above}
 use Rattle.desk.proofs.journeys.Branches.{stamp_has, deposit_has}
+use Rattle.desk.proofs.{journeys.Views.sealed_below, journeys.Views.deposit_sealed, journeys.StepFacts.right_at_most}
 
 deposit_below : (b : History) → Along Fits b → (n : ℕ) → FitsRight n b → n ≤ greatest_serial b
 deposit_below b sound n fits =

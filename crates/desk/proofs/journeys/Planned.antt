@@ -1,14 +1,13 @@
 -- Grants, rejections and deposits are of their plan.
-use Rattle.std.proofs.Common.{◌≡◌, ℕ, ◌+◌, nat_le, ℤ, cond, Bool, true, false, List, [], ◌∷◌, length, Option, Some, None}
+use Rattle.std.proofs.Common.{◌≡◌, ℕ, ◌+◌, nat_le, ℤ, cond, Bool, true, false, List, [], ◌∷◌, length, Option, Some}
+use Rattle.std.proofs.Common.{None}
 use Rattle.std.proofs.Common.{refl, sym, ◌∙◌, ap, subst, inl, inr}
 use Rattle.std.specs.Str.{bytes_eq}
 use Rattle.policy.specs.Record.{AccountValue}
 use Rattle.tsp.specs.Request.{Spells}
 use Rattle.cms.specs.SignedData.{token}
 use Rattle.book.specs.History.{Reserved, Deposited, History, greatest_serial, deposit_at, deposit_under}
-use Rattle.book.specs.Rows.{DepositRow}
-use Rattle.book.specs.Sound.{IsSound}
-use Rattle.book.specs.Values.{deposit_of}
+use Rattle.book.specs.{Rows.DepositRow, Sound.IsSound, Values.deposit_of}
 use Rattle.desk.specs.Outcome.{Outcome, Cause, OfMemory, OfStore, OfSigner, cause_of}
 use Rattle.desk.specs.Findings.{StampPlan, IsAllowed, Finding, Fails, Unanswered, Allowed, Finds}
 use Rattle.desk.specs.Command.{Setting, PendingValue, Command, Stamp, Begin, Finish, Abandon, Deposit, Show, Token}
@@ -18,13 +17,12 @@ use Rattle.desk.specs.Texts.{tst_of, reservation_of, gives_certificate, request_
 use Rattle.desk.specs.Effects.{Effect, only, unless, Stamping, Unreserved, Void, Sealing, no_number, no_seal, name_of}
 use Rattle.desk.specs.Effects.{next_reservation, stamping_of, begin_effect, begin_found, finish_effect}
 use Rattle.desk.specs.Effects.{deposit_effect, deposit_found, known_effect, fault_of}
-use Rattle.desk.specs.declared.fault.Fault.TheVariants as fault
 use Rattle.desk.specs.MachineStep.{KeepsByReference, KeepsOnceSearched, KeepsWithinSize, HasEffect}
 use Rattle.desk.specs.Laws.{IsDeposited, IsStampOfPlan, IsBeginningOfPlan, IsFinishOfPlan, IsOfPlan}
+use Rattle.desk.specs.declared.fault.Fault.TheVariants as fault
 use Rattle.desk.proofs.journeys.Headline.{SealedBy, stamping_by, granted_is, rejected_is, stamp_answered}
-use Rattle.desk.proofs.journeys.KeptPromises.{same_row}
-use Rattle.desk.proofs.journeys.Sound.{TextLaws}
 use Rattle.desk.proofs.journeys.Views.{found_under, same_octets}
+use Rattle.desk.proofs.{journeys.KeptPromises.same_row, journeys.Sound.TextLaws}
 
 -- what is begun
 begun_of : (s : Setting) (account : Option AccountValue) (reading : ℤ) (octets : List ℕ) (b : History)

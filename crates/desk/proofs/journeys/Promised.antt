@@ -1,21 +1,13 @@
 -- What is promised of each command is kept.
 use Rattle.std.proofs.Common.{subst}
 use Rattle.desk.specs.Command.{Setting, Command}
-use Rattle.desk.specs.Effects.{Effect}
-use Rattle.desk.specs.MachineStep.{HasEffect}
-use Rattle.desk.specs.Outcome.{Outcome}
-use Rattle.desk.specs.Promises.{KeepsPromises}
-use Rattle.book.specs.History.{History}
-use Rattle.book.specs.Sound.{IsSound}
-use Rattle.desk.proofs.journeys.Agreement.{step_agrees}
+use Rattle.desk.specs.{Effects.Effect, MachineStep.HasEffect, Outcome.Outcome, Promises.KeepsPromises}
+use Rattle.book.specs.{History.History, Sound.IsSound}
 use Rattle.desk.proofs.journeys.Given.{asked_is_reserved, begun_is_reserved}
 use Rattle.desk.proofs.journeys.Installation.{in_force_kept, brought_in_force}
-use Rattle.desk.proofs.journeys.Others.{step_stays}
-use Rattle.desk.proofs.journeys.Planned.{of_plan}
-use Rattle.desk.proofs.journeys.SameEffect.{effect_same}
 use Rattle.desk.proofs.documents.Sighted.{shows_exactly}
-use Rattle.desk.proofs.journeys.Sound.{TextLaws}
-use Rattle.desk.proofs.journeys.Whole.{step_sound}
+use Rattle.desk.proofs.{journeys.Agreement.step_agrees, journeys.Others.step_stays, journeys.Planned.of_plan}
+use Rattle.desk.proofs.{journeys.SameEffect.effect_same, journeys.Sound.TextLaws, journeys.Whole.step_sound}
 
 pub keeps_promises : TextLaws → (s : Setting) (c : Command) (o : Outcome) (b : History) (e : Effect) → IsSound b
     → HasEffect s c o b e → KeepsPromises s c o b e

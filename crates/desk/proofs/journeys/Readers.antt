@@ -1,14 +1,11 @@
 -- What rights make of who reads a deposit, and of who sees it.
-use Rattle.std.proofs.Common.{◌≡◌, ℕ, ◌==◌, ◌&&◌, ◌||◌, cond, Bool, true, false, List, [], ◌∷◌, Option, Some, None, refl}
-use Rattle.std.proofs.Common.{sym, ◌∙◌, ap, subst}
-use Rattle.std.specs.List.{list_any}
-use Rattle.std.specs.Option.{option_and_then}
-use Rattle.std.specs.Str.{bytes_eq}
-use Rattle.std.proofs.lemmas.Bool.{eqb-true}
+use Rattle.std.proofs.{Common.◌≡◌, Common.ℕ, Common.◌==◌, Common.◌&&◌, Common.◌||◌, Common.cond, Common.Bool}
+use Rattle.std.proofs.{Common.true, Common.false, Common.List, Common.[], Common.◌∷◌, Common.Option, Common.Some}
+use Rattle.std.proofs.{Common.None, Common.refl, Common.sym, Common.◌∙◌, Common.ap, Common.subst, lemmas.Bool.eqb-true}
+use Rattle.std.specs.{List.list_any, Option.option_and_then, Str.bytes_eq}
 use Rattle.book.specs.History.{Granted, Revoked, History, deposit_at}
 use Rattle.book.specs.Readers.{Reader, is_same, Viewer, readers_as}
-use Rattle.book.specs.Rights.{is_reader, may_read, shown_to, seen_by}
-use Rattle.book.specs.Rows.{DepositRow}
+use Rattle.book.specs.{Rights.is_reader, Rights.may_read, Rights.shown_to, Rights.seen_by, Rows.DepositRow}
 use Rattle.book.proofs.Rights.{reader_after_grant, reader_after_revocation}
 
 any_same : (f g : Reader → Bool) → ((reader : Reader) → f reader ≡ g reader) → (readers : List Reader)

@@ -5,8 +5,7 @@ use Rattle.std.proofs.Math.Nat.{le-max_left, le-max_right}
 use Rattle.decide.specs.Clock.{Follows}
 use Rattle.book.specs.Continuation.{Floor, IsAboveIfAny, continued}
 use Rattle.book.specs.History.{Entry, Reserved, History, ReservationValue, greatest_of, greatest_serial}
-use Rattle.book.specs.History.{last_gen_time, reservations}
-use Rattle.book.specs.Sound.{Along, IsSound}
+use Rattle.book.specs.{History.last_gen_time, History.reservations, Sound.Along, Sound.IsSound}
 use Rattle.book.proofs.GoingOn.{floor_goes_on, moment_goes_on}
 use Rattle.desk.specs.MachineRuns.{IsRising}
 use Rattle.desk.proofs.journeys.FallingSerials.{greatest_goes_up, greatest_grows}

@@ -1,41 +1,24 @@
 -- Calls one after the other are a run of the machine.
 use Rattle.std.proofs.Common.{◌≡◌, ℕ, ◌+◌, ◌<◌, length, get_or, take, map, List, [], ◌∷◌, ◌++◌, Option, Some, Ok, Err}
-use Rattle.std.proofs.Common.{Result}
-use Rattle.std.specs.Prelude.{IfOk, OnOk}
 use Rattle.std.proofs.Common.{refl, sym, ◌∙◌, ap, subst, inl, inr}
-use Rattle.std.proofs.lemmas.List.{take_more, map-append}
-use Rattle.book.specs.declared.standing.Standing.{Ghosts}
-use Rattle.cms.specs.Signer.{count_after}
-use Rattle.cms.specs.declared.signer.SignerFault.{SignerFault}
-use Rattle.book.specs.History.{History}
-use Rattle.book.specs.Readers.{Viewer}
-use Rattle.book.specs.Sound.{IsSound}
-use Rattle.book.specs.Stands.{Stands}
-use Rattle.desk.specs.Outcome.{Outcome}
-use Rattle.desk.specs.Calls.{settings_view, or_before, succeeded_as}
+use Rattle.std.proofs.{Common.Result, lemmas.List.take_more, lemmas.List.map-append}
+use Rattle.std.specs.Prelude.{IfOk, OnOk}
+use Rattle.book.specs.{declared.standing.Standing.Ghosts, History.History, Readers.Viewer, Sound.IsSound, Stands.Stands}
+use Rattle.cms.specs.{Signer.count_after, declared.signer.SignerFault.SignerFault}
 use Rattle.desk.specs.Command.{InForce, Setting, Command, Succeed, Answer, setting_after}
-use Rattle.desk.specs.Effects.{Effect}
-use Rattle.desk.specs.MachineStep.{HasEffect, Moves}
-use Rattle.desk.specs.Promises.{KeepsPromises}
-use Rattle.desk.specs.MachineRuns.{IsProper, Told, Runs, after}
-use Rattle.desk.specs.Laws.{AreMet, Concerns, Continues, StaysFor}
 use Rattle.desk.specs.auxiliary.Obstacles.{hindered, outcome_with, told_with}
 use Rattle.desk.specs.CallContract.{StepsBy, IsBareStep, MayBeLeft, IsBlamed, IsOpened, no_signer, with_signer}
 use Rattle.desk.specs.RunContract.{Obeys, WasOpen, AreSteps, ArePromised, MayBeLeftBy, AreCommandsOfOthers, OneConcerns}
-use Rattle.desk.specs.RunContract.{RunsBy, told_by}
-use Rattle.desk.specs.declared.settings.Settings.{Settings}
-use Rattle.desk.specs.declared.obstacle.Obstacle.{Obstacle}
+use Rattle.desk.specs.{Outcome.Outcome, Calls.settings_view, Calls.or_before, Calls.succeeded_as, Effects.Effect}
+use Rattle.desk.specs.{MachineStep.HasEffect, MachineStep.Moves, Promises.KeepsPromises, RunContract.RunsBy}
+use Rattle.desk.specs.{RunContract.told_by, declared.settings.Settings.Settings, declared.obstacle.Obstacle.Obstacle}
+use Rattle.desk.specs.{MachineRuns.IsProper, MachineRuns.Told, MachineRuns.Runs, MachineRuns.after, Laws.AreMet}
+use Rattle.desk.specs.{Laws.Concerns, Laws.Continues, Laws.StaysFor, Succession.HasSubject, Viewers.viewer_in}
 use Rattle.desk.specs.declared.obstacle.Obstacle.TheVariants as obstacle
-use Rattle.desk.specs.Succession.{HasSubject}
-use Rattle.desk.specs.Viewers.{viewer_in}
-use Rattle.desk.proofs.journeys.Sound.{TextLaws}
-use Rattle.desk.proofs.journeys.Acknowledged.{readers_along}
-use Rattle.desk.proofs.journeys.FallingSerials.{given_in_order}
-use Rattle.desk.proofs.journeys.KeptPromises.{journeys_have_properties}
-use Rattle.desk.proofs.calls.Opened.{StaysUnder}
-use Rattle.desk.proofs.journeys.Others.{step_stays}
-use Rattle.desk.proofs.journeys.Promised.{keeps_promises}
 use Rattle.desk.proofs.journeys.Whole.{continued, runs_alike}
+use Rattle.desk.proofs.{journeys.Sound.TextLaws, journeys.Acknowledged.readers_along}
+use Rattle.desk.proofs.{journeys.FallingSerials.given_in_order, journeys.KeptPromises.journeys_have_properties}
+use Rattle.desk.proofs.{calls.Opened.StaysUnder, journeys.Others.step_stays, journeys.Promised.keeps_promises}
 
 -- the policy file stays
 pub file_stays : {B X : Type 0} (g : Ghosts B) (signs : X → List ℕ → Result (List ℕ) SignerFault → X → Type 0)

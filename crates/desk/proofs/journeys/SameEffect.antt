@@ -1,39 +1,31 @@
 -- A command of an account has one and the same effect in two histories that agree for it.
 use Rattle.std.proofs.Common.{if◌then◌else◌, pos, negsuc, ◌≡◌, ℕ, ◌+◌, ◌==◌, ◌&&◌, nat_le, cond, ℤ, Bool, true, false}
 use Rattle.std.proofs.Common.{List, [], ◌∷◌, length, Option, Some, None, refl, sym, ◌∙◌, ap, subst, inl, inr}
-use Rattle.std.specs.Prelude.{filter, filter_map, map, option_map, int_le, int_lt}
 use Rattle.std.proofs.Math.Nat.{add-zero}
-use Rattle.std.specs.Option.{option_and_then}
-use Rattle.std.specs.List.{cons_option}
+use Rattle.std.specs.Prelude.{filter, filter_map, map, option_map, int_le, int_lt}
 use Rattle.std.specs.List.{fold, find, list_any, range_with_len}
-use Rattle.std.specs.Str.{bytes_eq}
+use Rattle.std.specs.{Option.option_and_then, List.cons_option, Str.bytes_eq}
 use Rattle.policy.specs.Record.{AccountValue, PolicyValue}
 use Rattle.gentime.specs.GenTime.{last_moment}
-use Rattle.tsp.specs.Rules.{HoldsOfOctets, IsFirstFailing}
-use Rattle.tsp.specs.declared.rule.Rule.{Rule}
-use Rattle.decide.specs.Clock.{IsGood, IsGoodAt}
-use Rattle.decide.specs.Rules.{Holds}
-use Rattle.book.specs.Rows.{StampRow, DepositRow}
+use Rattle.tsp.specs.{Rules.HoldsOfOctets, Rules.IsFirstFailing, declared.rule.Rule.Rule}
+use Rattle.decide.specs.{Clock.IsGood, Clock.IsGoodAt, Rules.Holds}
 use Rattle.book.specs.History.{Granted, Revoked, History, ReservationValue, reservations, deposits, holds, stamps}
 use Rattle.book.specs.History.{stamp_of, day_of, is_of_day, count_of_day, latest_calibration, last_gen_time}
-use Rattle.book.specs.History.{greatest_serial}
 use Rattle.book.specs.History.{token_of, reservation_at, deposit_under}
-use Rattle.book.specs.Readers.{Viewer}
 use Rattle.book.specs.Rights.{seen_by, ListedValue, listed_as, listed_at, listed}
+use Rattle.book.specs.{Rows.StampRow, Rows.DepositRow, History.greatest_serial, Readers.Viewer, Sound.greatest_number}
 use Rattle.desk.specs.Agreement.{SeenValue, seen_as, Agree, IsCommandOf}
 use Rattle.desk.specs.Facts.{now_in, is_held_at, gen_time_of, gen_time_in, count_in, facts_of}
 use Rattle.desk.specs.Outcome.{Outcome, Cause, OfStore, cause_of, first_cause}
 use Rattle.desk.specs.Findings.{IsUnjudged, StampPlan, IsAllowed, Finding, Fails, Unanswered, Allowed, Finds}
 use Rattle.desk.specs.Command.{Setting, Command, Stamp, Begin, Finish, Abandon, Deposit, Show, Token, ListAll, Grant}
 use Rattle.desk.specs.Command.{Revoke, Calibrate, Hold, Succeed, Listed}
-use Rattle.book.specs.Sound.{greatest_number}
-use Rattle.desk.specs.Texts.{octets_for, reservation_of, pending_of}
 use Rattle.desk.specs.Effects.{Stamping, Unreserved, signed_or_void, stamping_of}
 use Rattle.desk.specs.Effects.{no_number, reply_or_nothing, Effect, only, unless}
 use Rattle.desk.specs.Effects.{show_effect, token_effect, right_effect}
 use Rattle.desk.specs.MachineStep.{KeepsByReference, KeepsOnceSearched, KeepsWithinSize, HasEffect}
-use Rattle.desk.specs.Viewers.{viewer_in}
 use Rattle.desk.specs.Effects.{Purpose, purpose_effect, purpose_found, for_reply, for_deposit}
+use Rattle.desk.specs.{Texts.octets_for, Texts.reservation_of, Texts.pending_of, Viewers.viewer_in}
 
 -- the day's count is that of the account's own stamps
 abbrev own_by : List ℕ → StampRow → Bool

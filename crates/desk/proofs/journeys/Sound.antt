@@ -1,8 +1,9 @@
 -- Each step leaves a sound history sound, and keeps what was acknowledged.
 use Rattle.std.proofs.Common.{zero, ◌∙◌, if◌then◌else◌, ◌≡◌, ℕ, suc, ◌<◌, ◌≤◌, ◌^◌, ◌+◌, ◌-◌, nat_le, ℤ, Bool, true}
 use Rattle.std.proofs.Common.{false, IfSome, List, [], ◌∷◌, ◌++◌, length, Option, Some, None, drop, refl, sym, arith}
-use Rattle.der.specs.Node.{Node, IsLawful}
-use Rattle.der.specs.ObjectIdentifier.{IsOid}
+use Rattle.std.proofs.lemmas.List.Elements.{All-contains, All-from_recursion}
+use Rattle.std.proofs.{Math.Nat.div-mul-le_self, lemmas.Bool.Decides.nat_tests}
+use Rattle.der.specs.{Node.Node, Node.IsLawful, ObjectIdentifier.IsOid}
 use Rattle.gentime.specs.GenTime.{last_moment}
 use Rattle.policy.specs.Record.{AccountValue}
 use Rattle.tsp.specs.Request.{RequestValue, Spells}
@@ -12,16 +13,9 @@ use Rattle.book.specs.History.{Entry, Reserved, History, greatest_serial}
 use Rattle.book.specs.Sound.{Along, Fits, greatest_number}
 use Rattle.cms.specs.Certificate.{IsSubjectName}
 use Rattle.desk.specs.Content.{IsForRequest, IsTrueOf, IsNaming}
-use Rattle.desk.specs.Findings.{StampPlan, IsAllowed}
-use Rattle.desk.specs.Command.{Setting}
 use Rattle.desk.specs.Succession.{installed_by, subject_of, tsa_of, IsNameable, NamesLatest}
-use Rattle.desk.specs.Texts.{tst_of}
-use Rattle.desk.specs.Effects.{next_reservation}
-use Rattle.desk.specs.MachineRuns.{IsProper, IsRising}
-use Rattle.desk.specs.Outcome.{Cause, OfStore, first_cause}
-use Rattle.std.proofs.Math.Nat.{div-mul-le_self}
-use Rattle.std.proofs.lemmas.List.Elements.{All-contains, All-from_recursion}
-use Rattle.std.proofs.lemmas.Bool.Decides.{nat_tests}
+use Rattle.desk.specs.{Findings.StampPlan, Findings.IsAllowed, Command.Setting, Texts.tst_of, Effects.next_reservation}
+use Rattle.desk.specs.{MachineRuns.IsProper, MachineRuns.IsRising, Outcome.Cause, Outcome.OfStore, Outcome.first_cause}
 
 -- what is asked of the crate that reads and writes the texts
 pub record TextLaws : Type 0 where

@@ -1,40 +1,32 @@
 -- What a step adds fits, is true of texts and hashes, and rises.
-use Rattle.std.proofs.Common.{zero, ◌≡◌, ℕ, suc, ◌+◌, ◌⊎◌, nat_le, cond, ℤ, Bool, true, false, List, [], ◌∷◌, ◌++◌, length}
+use Rattle.std.proofs.Common.{zero, ◌≡◌, ℕ, suc, ◌+◌, ◌⊎◌, nat_le, cond, ℤ, Bool, true, false, List, [], ◌∷◌, ◌++◌}
+use Rattle.std.proofs.Common.{length}
 use Rattle.std.proofs.Common.{Option, Some, None, drop, refl, sym, ◌∙◌, ap, subst, inl, inr}
-use Rattle.std.specs.Option.{option_and_then}
 use Rattle.std.proofs.lemmas.Bool.{eq-eqb}
+use Rattle.std.specs.Option.{option_and_then}
 use Rattle.sha2.specs.Sha256.{sha256}
 use Rattle.policy.specs.Record.{AccountValue, PolicyValue}
 use Rattle.book.specs.History.{Entry, Reserved, Sealed, Deposited, Calibrated, Held, Granted, Revoked, History}
 use Rattle.book.specs.History.{ReservationValue, CalibrationValue, greatest_serial, latest_calibration}
 use Rattle.book.specs.History.{Installed, InstalledValue, holds, token_of, deposit_at, deposit_under}
-use Rattle.book.specs.Identities.{latest_identity}
-use Rattle.book.specs.Readers.{Reader, Viewer}
 use Rattle.book.specs.Rights.{seen_by, shown_to, may_read}
-use Rattle.book.specs.Rows.{DepositRow}
 use Rattle.book.specs.Sound.{Along, Fits, FitsRight, greatest_number, is_backwards}
-use Rattle.book.specs.Values.{deposit_of}
-use Rattle.desk.specs.Content.{IsTrueOf, IsNaming}
-use Rattle.desk.specs.Outcome.{Outcome, Cause, cause_of}
+use Rattle.book.specs.{Identities.latest_identity, Readers.Reader, Readers.Viewer, Rows.DepositRow, Values.deposit_of}
 use Rattle.desk.specs.Findings.{StampPlan, IsAllowed, Finding, Fails, Unanswered, Allowed, Finds}
 use Rattle.desk.specs.Command.{Setting, Command, Stamp, Begin, Finish, Abandon, Deposit, Show, Token}
 use Rattle.desk.specs.Command.{ListAll, Grant, Revoke, Calibrate, Hold, Succeed, Answer}
-use Rattle.desk.specs.Texts.{octets_for, request_for, token_with}
 use Rattle.desk.specs.Effects.{Effect, only, unless, no_number, no_seal}
-use Rattle.desk.specs.Effects.{next_reservation}
 use Rattle.desk.specs.Effects.{begin_effect, begin_found, finish_effect}
 use Rattle.desk.specs.Effects.{show_effect, token_effect, right_effect, calibrate_effect}
-use Rattle.desk.specs.Effects.{numbered, succeed_effect, name_of}
 use Rattle.desk.specs.Succession.{installed_by, is_latest, IsNameable}
-use Rattle.desk.specs.Names.{IsNameableFor}
-use Rattle.desk.specs.MachineStep.{HasEffect, IsMet}
-use Rattle.desk.specs.MachineRuns.{IsProper}
-use Rattle.desk.specs.Viewers.{viewer_in}
-use Rattle.desk.proofs.journeys.Branches.{unless_has, right_has}
-use Rattle.desk.proofs.journeys.Views.{fits_seal}
-use Rattle.desk.proofs.journeys.Sound.{TextLaws, IsGoodEntry, AreGood, reserved_good, number_left, not_full}
 use Rattle.desk.specs.Effects.{Purpose, purpose_found, for_reply, for_deposit}
+use Rattle.desk.specs.{Content.IsTrueOf, Content.IsNaming, Outcome.Outcome, Outcome.Cause, Outcome.cause_of}
+use Rattle.desk.specs.{Texts.octets_for, Texts.request_for, Texts.token_with, Effects.next_reservation}
+use Rattle.desk.specs.{Effects.numbered, Effects.succeed_effect, Effects.name_of, Names.IsNameableFor}
+use Rattle.desk.specs.{MachineStep.HasEffect, MachineStep.IsMet, MachineRuns.IsProper, Viewers.viewer_in}
+use Rattle.desk.proofs.journeys.Sound.{TextLaws, IsGoodEntry, AreGood, reserved_good, number_left, not_full}
 use Rattle.desk.proofs.journeys.Branches.{stamp_has, deposit_has}
+use Rattle.desk.proofs.{journeys.Branches.unless_has, journeys.Branches.right_has, journeys.Views.fits_seal}
 
 -- Each entry that is added is good after those that are added before it, where the authority that is named is the one in
 -- force.

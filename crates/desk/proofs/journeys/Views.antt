@@ -1,17 +1,13 @@
 -- What a history shows stays so when an entry fits it.
 use Rattle.std.proofs.Common.{◌≡◌, ℕ, ◌<◌, ◌≤◌, ◌==◌, ◌&&◌, cond, Bool, true, false, List, [], ◌∷◌, Option, Some, None}
-use Rattle.std.proofs.Common.{refl, sym, arith}
-use Rattle.std.specs.List.{find}
-use Rattle.std.specs.Str.{bytes_eq}
 use Rattle.std.proofs.lemmas.Bool.{eqb-true, eq-eqb}
-use Rattle.std.proofs.lemmas.Slice.Eq.{bytes_eq-Decides}
+use Rattle.std.proofs.{Common.refl, Common.sym, Common.arith, lemmas.Slice.Eq.bytes_eq-Decides}
+use Rattle.std.specs.{List.find, Str.bytes_eq}
 use Rattle.book.specs.History.{Entry, Reserved, Sealed, Deposited, Calibrated, Held, Granted, Revoked, Installed}
-use Rattle.book.specs.History.{History}
 use Rattle.book.specs.History.{ReservationValue, reservations, greatest_of, greatest_serial, token_of}
 use Rattle.book.specs.History.{reservation_at, deposit_at, deposit_under}
 use Rattle.book.specs.Identities.{latest_identity, identity_at_reservation}
-use Rattle.book.specs.Rows.{DepositRow}
-use Rattle.book.specs.Sound.{Along, Fits, FitsReserved, FitsSealed}
+use Rattle.book.specs.{History.History, Rows.DepositRow, Sound.Along, Sound.Fits, Sound.FitsReserved, Sound.FitsSealed}
 
 abbrev search_serial : ℕ → List ReservationValue → Option ReservationValue
 search_serial n rs = find (λ r. r.serial == n) rs

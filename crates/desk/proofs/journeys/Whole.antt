@@ -2,24 +2,16 @@
 use Rattle.std.proofs.Common.{◌≡◌, ℕ, ◌⊎◌, List, [], ◌∷◌, Option, Some, None, Result, drop, refl, sym, subst, inl}
 use Rattle.std.proofs.Common.{inr}
 use Rattle.cms.specs.declared.signer.SignerFault.{SignerFault}
-use Rattle.book.specs.History.{History}
-use Rattle.book.specs.Sound.{IsSound}
-use Rattle.desk.specs.Agreement.{Agree, IsCommandOf}
-use Rattle.desk.specs.Content.{IsSoundInFull}
-use Rattle.desk.specs.Outcome.{Outcome}
+use Rattle.book.specs.{History.History, Sound.IsSound}
 use Rattle.desk.specs.Command.{Setting, Command, Stamp, Begin, Finish, Abandon, Deposit, Show, Token, ListAll, Grant}
 use Rattle.desk.specs.Command.{Revoke, Calibrate, Hold, Succeed, Answer, setting_after}
-use Rattle.desk.specs.Effects.{Effect}
-use Rattle.desk.specs.MachineStep.{HasEffect, IsMet}
 use Rattle.desk.specs.MachineRuns.{IsProper, Told, Journey, goes, stops, after, cut, Runs, HasProperties}
 use Rattle.desk.specs.Laws.{Continues, AreMet, AreCommandsOf, RunsAlike}
-use Rattle.desk.specs.Names.{IsNameableFor}
-use Rattle.desk.specs.Viewers.{viewer_in}
-use Rattle.desk.proofs.journeys.Sound.{TextLaws}
+use Rattle.desk.specs.{Agreement.Agree, Agreement.IsCommandOf, Content.IsSoundInFull, Outcome.Outcome, Effects.Effect}
+use Rattle.desk.specs.{MachineStep.HasEffect, MachineStep.IsMet, Names.IsNameableFor, Viewers.viewer_in}
 use Rattle.desk.proofs.journeys.StepFacts.{step_adds, adds_fit, adds_true, adds_names, adds_cut}
 use Rattle.desk.proofs.journeys.KeptPromises.{journeys_have_properties, proper_after}
-use Rattle.desk.proofs.journeys.SameEffect.{effect_same}
-use Rattle.desk.proofs.journeys.Agreement.{step_agrees}
+use Rattle.desk.proofs.{journeys.Sound.TextLaws, journeys.SameEffect.effect_same, journeys.Agreement.step_agrees}
 
 pub step_sound : TextLaws → (s : Setting) (c : Command) (o : Outcome) (e : Effect) (b : History) → IsProper s
     → IsNameableFor s c b → IsSoundInFull b → IsMet c b → HasEffect s c o b e

@@ -1,25 +1,19 @@
 -- A history that is sound in full goes on so in a new book.
 use Rattle.std.proofs.Common.{◌≡◌, ℕ, List, [], ◌∷◌, map, reverse, Option, Some, None, refl, sym, ap, ◌∙◌}
-use Rattle.std.proofs.Common.{subst}
-use Rattle.std.proofs.lemmas.Bool.{eq-eqb}
-use Rattle.der.specs.Node.{Node}
-use Rattle.der.specs.ObjectIdentifier.{oid_content}
-use Rattle.tsp.specs.Request.{RequestValue, Spells}
-use Rattle.tsp.specs.Tst.{SpellsTst, TstValue, answer}
+use Rattle.std.proofs.{Common.subst, lemmas.Bool.eq-eqb}
+use Rattle.der.specs.{Node.Node, ObjectIdentifier.oid_content}
+use Rattle.tsp.specs.{Request.RequestValue, Request.Spells, Tst.SpellsTst, Tst.TstValue, Tst.answer}
 use Rattle.decide.specs.Clock.{Follows}
 use Rattle.book.specs.Continuation.{Floor, entry_if, reserved_as, token_as, continued, last_reservation, identity_since}
-use Rattle.book.specs.Continuation.{other_holds, IsAboveIfAny}
-use Rattle.book.specs.Entries.{with_all}
 use Rattle.book.specs.History.{Entry, Reserved, Sealed, Calibrated, Held, Installed, History}
 use Rattle.book.specs.History.{HoldValue, CalibrationValue, InstalledValue, ReservationValue, latest_calibration}
 use Rattle.book.specs.Identities.{latest_identity, identity_at_reservation}
-use Rattle.book.specs.Sound.{Along}
+use Rattle.book.specs.{Continuation.other_holds, Continuation.IsAboveIfAny, Entries.with_all, Sound.Along}
 use Rattle.book.proofs.GoingOn.{clocked_as, goes_on, goes_on_unstamped, by_last, signer_before, none_before}
 use Rattle.book.proofs.GoingOn.{continued_sound}
 use Rattle.desk.specs.Content.{IsForRequest, IsNamedBy, IsTrueOf, IsNaming, IsSoundInFull}
 use Rattle.desk.specs.Continuation.{Names, IsRestated, IsStated, IsStatedIfAny}
-use Rattle.desk.specs.MachineRuns.{IsRising}
-use Rattle.desk.specs.Succession.{NamesLatest}
+use Rattle.desk.specs.{MachineRuns.IsRising, Succession.NamesLatest}
 
 -- ---- a fact of each entry, over entries of which it says nothing
 

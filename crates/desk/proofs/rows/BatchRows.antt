@@ -6,13 +6,10 @@ use Rattle.tsp.specs.declared.rule.Rule.TheVariants.{System}
 use Rattle.cms.specs.declared.signer.SignerFault.{SignerFault}
 use Rattle.cms.specs.declared.signer.SignerFault.TheVariants as signer
 use Rattle.book.specs.History.{Reserved, Sealed, Calibrated, History, ReservationValue, reservations}
-use Rattle.desk.specs.Facts.{clock_of, count_in}
-use Rattle.desk.specs.Outcome.{Failed, all_fine}
-use Rattle.desk.specs.Command.{Rejected}
 use Rattle.desk.specs.Effects.{Effect, next_reservation, stamping_of, stamp_effect}
-use Rattle.desk.specs.Texts.{pending_of, token_with}
-use Rattle.desk.specs.MachineRuns.{after}
 use Rattle.desk.specs.Batches.{batch_of, with_reserved, once_reserved, after_batch, faults_along}
+use Rattle.desk.specs.{Facts.clock_of, Facts.count_in, Outcome.Failed, Outcome.all_fine, Command.Rejected}
+use Rattle.desk.specs.{Texts.pending_of, Texts.token_with, MachineRuns.after}
 use Rattle.desk.proofs.rows.Rows.{carol, file, setting, reserved, history, plan}
 
 -- carol may have two stamps a day, and has one

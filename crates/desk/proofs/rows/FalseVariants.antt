@@ -1,37 +1,23 @@
 -- What the promises refuse: false variants of what a journey gave out and acknowledged, of what an account is shown and
 -- listed and may know of others, and of outcomes, effects and grants, each computed on the rows.
 use Rattle.std.proofs.Common.{◌≡◌, ◌⊎◌, ℕ, ◌+◌, ◌<◌, pos, true, false, List, [], ◌∷◌, Option, Some, None, Ok, Err, refl}
-use Rattle.std.proofs.Common.{inl, inr}
-use Rattle.std.proofs.Common.{arith, sym, ◌∙◌, ap}
-use Rattle.std.specs.Prelude.{codes}
-use Rattle.std.specs.Str.{bytes_eq}
+use Rattle.std.proofs.{Common.inl, Common.inr, Common.arith, Common.sym, Common.◌∙◌, Common.ap}
+use Rattle.std.specs.{Prelude.codes, Str.bytes_eq}
 use Rattle.book.specs.declared.standing.Standing.{Ghosts}
-use Rattle.der.specs.Node.{Node}
 use Rattle.book.specs.History.{Reserved, Granted, Revoked, Installed, InstalledValue, History}
-use Rattle.book.specs.History.{HoldValue}
-use Rattle.book.specs.Readers.{Account, Group}
-use Rattle.book.specs.Rights.{ListedValue}
-use Rattle.book.specs.Rows.{DepositRow}
+use Rattle.book.specs.{History.HoldValue, Readers.Account, Readers.Group, Rights.ListedValue, Rows.DepositRow}
+use Rattle.der.specs.Node.{Node}
 use Rattle.cms.specs.Identity.{IdentityValue}
 use Rattle.cms.specs.declared.signer.SignerFault.TheVariants as signer
-use Rattle.desk.specs.Agreement.{seen_as, Agree}
 use Rattle.desk.specs.Command.{Setting, PendingValue, Stamp, Begin, Finish, Show, Token, ListAll, Grant, Revoke}
 use Rattle.desk.specs.Command.{Hold, Succeed, Stamped, Rejected, Begun, Shown, Done, Numbered, Refused, setting_after}
 use Rattle.desk.specs.Succession.{installed_by, IsInForce, NamesLatest}
-use Rattle.desk.specs.Effects.{only, accepted}
-use Rattle.desk.specs.Fit.{IsFit}
-use Rattle.desk.specs.Findings.{HoldsUnasked}
 use Rattle.desk.specs.Laws.{IsFinished, IsStampOfPlan, IsRefusalOfPlan, AreMet}
-use Rattle.desk.specs.Outcome.{OutOfMemory, Failed, all_fine}
-use Rattle.desk.specs.Promises.{IsAlike}
-use Rattle.desk.specs.Readers.{rights_by}
-use Rattle.desk.specs.Replies.{IsRejected}
-use Rattle.desk.specs.MachineRuns.{IsProper, IsKept}
-use Rattle.desk.specs.Serials.{given_by, Falls, AreInOrder}
-use Rattle.desk.specs.Sight.{ShowsExactly, IsExactList}
-use Rattle.desk.specs.CallContract.{IsBlamedFor, IsOpened}
-use Rattle.desk.specs.MachineStep.{HasEffect}
-use Rattle.desk.specs.Viewers.{viewer_in}
+use Rattle.desk.specs.{Agreement.seen_as, Agreement.Agree, Effects.only, Effects.accepted, Fit.IsFit}
+use Rattle.desk.specs.{Findings.HoldsUnasked, Outcome.OutOfMemory, Outcome.Failed, Outcome.all_fine, Promises.IsAlike}
+use Rattle.desk.specs.{Readers.rights_by, Replies.IsRejected, MachineRuns.IsProper, MachineRuns.IsKept}
+use Rattle.desk.specs.{Serials.given_by, Serials.Falls, Serials.AreInOrder, Sight.ShowsExactly, Sight.IsExactList}
+use Rattle.desk.specs.{CallContract.IsBlamedFor, CallContract.IsOpened, MachineStep.HasEffect, Viewers.viewer_in}
 use Rattle.desk.specs.declared.fault.Fault.TheVariants as fault
 use Rattle.tsp.specs.declared.rule.Rule.TheVariants.{Spelling, System}
 use Rattle.desk.proofs.rows.Rows.{alice, carol, file, grouped, setting, reserved, history, deposit, deposited, identity}

@@ -3,24 +3,18 @@
 use Rattle.std.proofs.Common.{◌≡◌, ℕ, pos, true, false, [], ◌∷◌, length, Some, None, Ok, Err, refl}
 use Rattle.std.specs.Prelude.{codes}
 use Rattle.policy.specs.Record.{AccountValue, PolicyValue}
-use Rattle.tsp.specs.Request.{sha256_request}
-use Rattle.tsp.specs.declared.rule.Rule.TheVariants.{System}
+use Rattle.tsp.specs.{Request.sha256_request, declared.rule.Rule.TheVariants.System}
 use Rattle.cms.specs.declared.signer.SignerFault.TheVariants as signer
 use Rattle.book.specs.History.{Reserved, Deposited, Calibrated, Held, Granted, Revoked, History, ReservationValue}
-use Rattle.book.specs.History.{Installed}
 use Rattle.book.specs.Readers.{Reader, Account, Group}
-use Rattle.book.specs.Rights.{seen_by}
-use Rattle.desk.specs.Facts.{facts_of, count_in, gen_time_in}
+use Rattle.book.specs.{History.Installed, Rights.seen_by, Identities.latest_identity, Rows.DepositRow}
 use Rattle.desk.specs.Outcome.{OutOfMemory, Failed, OfMemory, OfStore, all_fine, faults_after}
-use Rattle.desk.specs.Findings.{StampPlan}
 use Rattle.desk.specs.Command.{InForce, Setting, Succeed, Rejected, Refused, Kept, Done, Numbered, setting_after}
-use Rattle.cms.specs.Identity.{IdentityValue}
-use Rattle.book.specs.Identities.{latest_identity}
-use Rattle.book.specs.Rows.{DepositRow}
 use Rattle.desk.specs.Succession.{installed_by, is_latest, subject_of, tsa_of}
 use Rattle.desk.specs.Effects.{no_number, next_reservation, stamping_of, stamp_effect, deposit_effect, known_effect}
 use Rattle.desk.specs.Effects.{Effect, right_effect, show_effect, succeed_effect, calibrate_effect}
-use Rattle.desk.specs.Viewers.{viewer_in}
+use Rattle.desk.specs.{Facts.facts_of, Facts.count_in, Facts.gen_time_in, Findings.StampPlan, Viewers.viewer_in}
+use Rattle.cms.specs.Identity.{IdentityValue}
 use Rattle.desk.specs.declared.fault.Fault.TheVariants as fault
 
 abbrev pub alice : AccountValue

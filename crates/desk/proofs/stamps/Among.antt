@@ -1,22 +1,18 @@
 -- What is found of a request where reservations wait, added to what the store says.
 use Rattle.std.proofs.Common.{◌≡◌, ℕ, ◌+◌, ◌-◌, ◌<◌, ◌≤◌, ◌^◌, ℤ, Bool, List, [], ◌∷◌, ◌++◌, map, length}
 use Rattle.std.proofs.Common.{Option, Some, refl, sym, ap, ◌∙◌, subst, arith, take, count_by, cond}
-use Rattle.std.specs.Prelude.{min, max, option_map}
-use Rattle.std.specs.List.{slice_get}
 use Rattle.std.proofs.lemmas.List.{take_all, take_more, map-append}
 use Rattle.std.proofs.lemmas.List.Sums.{count_by-le-length, sum_by-cons}
 use Rattle.std.proofs.lemmas.Option.{slice_get_within, get_or_from_slice_get}
+use Rattle.std.specs.{Prelude.min, Prelude.max, Prelude.option_map, List.slice_get}
 use Rattle.gentime.specs.GenTime.{last_moment}
 use Rattle.book.specs.History.{Reserved, Sealed, Deposited, Calibrated, Held, Granted, Revoked, Installed}
 use Rattle.book.specs.History.{History, ReservationValue, reservations, calibrations, holds, greatest_serial}
 use Rattle.book.specs.History.{latest_calibration, is_of_day, count_of_day}
 use Rattle.book.specs.Sound.{FitsReserved, IsSound, greatest_number}
-use Rattle.desk.specs.Batches.{with_reserved}
-use Rattle.desk.specs.Calls.{looked_at, moment_or_last}
-use Rattle.desk.specs.Facts.{calibration_of, is_held_at, now_in}
-use Rattle.desk.specs.WaitingStamps.{waiting_view, with_waiting}
-use Rattle.desk.specs.declared.clock_facts.Looked.{Looked}
-use Rattle.desk.specs.declared.waiting_stamp.Waiting.{Waiting}
+use Rattle.desk.specs.{Batches.with_reserved, Calls.looked_at, Calls.moment_or_last, Facts.calibration_of}
+use Rattle.desk.specs.{Facts.is_held_at, Facts.now_in, WaitingStamps.waiting_view, WaitingStamps.with_waiting}
+use Rattle.desk.specs.{declared.clock_facts.Looked.Looked, declared.waiting_stamp.WaitingStamp.WaitingStamp}
 use Rattle.decide.specs.declared.facts.Calibration.{Calibration}
 use Rattle.desk.proofs.journeys.SameEffect.{held_same}
 
@@ -82,7 +78,7 @@ last_apart xs x is =
     ∙ (ap (λ n. take n xs) (omega arith) ∙ take_all (length xs) xs (omega arith)))
 
 -- what a look finds where some wait
-pub looked_last : (reading : ℤ) (ws : List Waiting) (w : Waiting) (b : History) (looked : Looked)
+pub looked_last : (reading : ℤ) (ws : List WaitingStamp) (w : WaitingStamp) (b : History) (looked : Looked)
     → slice_get ws (length ws - 1) ≡ Some w → looked ≡ looked_at reading b → IsSound (with_waiting ws b)
     → looked_by reading looked.clock.calibration looked.clock.held (Some (moment_or_last w.gen_time))
     w.unsigned.serial ≡ looked_at reading (with_waiting ws b)
@@ -139,7 +135,7 @@ greatest_within (Revoked n reader ∷ b) sound = greatest_within b sound.1
 greatest_within (Installed i ∷ b) sound = greatest_within b sound.1
 
 -- an account's day, with those that wait
-pub count_among : (name : List ℕ) (day : ℕ) (ws : List Waiting) (b : History) (stored waiting : ℕ)
+pub count_among : (name : List ℕ) (day : ℕ) (ws : List WaitingStamp) (b : History) (stored waiting : ℕ)
     → stored ≡ count_of_day name day b → waiting ≡ count_by (is_of_day name day) (map waiting_view ws)
     → IsSound (with_waiting ws b) → min (stored + waiting) (2 ^ 64 - 1) ≡ count_of_day name day (with_waiting ws b)
 count_among name day ws b stored waiting is waits sound =

@@ -3,46 +3,35 @@ use Rattle.std.proofs.Common.{◌≡◌, ◌⊎◌, ℕ, List, [], ◌∷◌, �
 use Rattle.std.proofs.Common.{◌∙◌, subst, inl, inr, append_assoc}
 use Rattle.std.specs.List.{AllByRecursion}
 use Rattle.policy.specs.Record.{PolicyValue}
-use Rattle.tsp.specs.Rules.{IsFirstFailing}
-use Rattle.tsp.specs.declared.rule.Rule.{Rule}
-use Rattle.tsp.specs.declared.rule.Rule.TheVariants.{System}
-use Rattle.cms.specs.Signer.{count_after_each, SignsEach}
-use Rattle.cms.specs.declared.signer.SignerFault.{SignerFault}
-use Rattle.book.specs.declared.standing.Standing.{Ghosts}
-use Rattle.book.specs.Entries.{with_all, FitInTurn}
-use Rattle.book.specs.History.{Entry, Reserved, History}
-use Rattle.book.specs.Shows.{ShowsSame}
-use Rattle.book.specs.Sound.{IsSound}
-use Rattle.book.specs.Stands.{OnlyLooks, Stands}
+use Rattle.tsp.specs.{Rules.IsFirstFailing, declared.rule.Rule.Rule, declared.rule.Rule.TheVariants.System}
+use Rattle.cms.specs.{Signer.count_after_each, Signer.SignsEach, declared.signer.SignerFault.SignerFault}
+use Rattle.book.specs.{declared.standing.Standing.Ghosts, Entries.with_all, Entries.FitInTurn, Shows.ShowsSame}
+use Rattle.book.specs.{History.Entry, History.Reserved, History.History, Sound.IsSound, Stands.OnlyLooks, Stands.Stands}
 use Rattle.desk.specs.Batches.{Question, SealValue, stamp_for, stamps_for, seal_entry, with_reserved, with_sealed}
 use Rattle.desk.specs.Batches.{HaveEffects, all_reserved, batch_of, after_batch, faults_along}
-use Rattle.desk.specs.Command.{Setting, Answer}
 use Rattle.desk.specs.Commits.{if_accepted, IsCommitted, untried, added, refused}
 use Rattle.desk.specs.auxiliary.Completions.{Completion, seals_of, texts_of, AreWaiting, AreWritten}
-use Rattle.desk.specs.Findings.{HoldsUnasked}
 use Rattle.desk.specs.auxiliary.Halves.{IsTried, at_once, anew}
-use Rattle.desk.specs.MachineRuns.{Runs, after}
 use Rattle.desk.specs.Outcome.{Call, Fine, OutOfMemory, Failed, Outcome, counted, faults_after}
-use Rattle.desk.specs.RunContract.{ArePromised}
-use Rattle.desk.specs.Sent.{texts_for, SendsReserved}
 use Rattle.desk.specs.auxiliary.Verdicts.{Verdict, Settled, Waits, JudgedStamp, rule_of, rules_of, all_looks, waits_of}
 use Rattle.desk.specs.auxiliary.Verdicts.{AreJudged, IsItsOwn, IsJudgedRightly, JudgesEach, merged, met_by, reply_for}
 use Rattle.desk.specs.Together.{AreFit, AreRejections, AreSignedAlike, IsDoubtedTogether, MayBeLeftTogether}
-use Rattle.desk.specs.auxiliary.Verdicts.{waiting_before}
 use Rattle.desk.specs.Together.{AreOfSome, AreRejectedUnasked, IsForPassing, IsCommittedTogether, IsAnsweredTogether}
 use Rattle.desk.specs.WaitingStamps.{waiting_view, pendings_in, with_waiting}
-use Rattle.desk.specs.declared.waiting_stamp.Waiting.{Waiting}
+use Rattle.desk.specs.declared.waiting_stamp.WaitingStamp.{WaitingStamp}
+use Rattle.desk.specs.{Command.Setting, Command.Answer, Findings.HoldsUnasked, MachineRuns.Runs, MachineRuns.after}
+use Rattle.desk.specs.{RunContract.ArePromised, Sent.texts_for, Sent.SendsReserved, auxiliary.Verdicts.waiting_before}
 use Rattle.desk.proofs.stamps.Assembly.{questions_of, signings_of, replies_of, AreOf, outcomes_of, effects_of}
-use Rattle.desk.proofs.stamps.Assembly.{Grow, behind, outcome_in, have_effects, reserves_all, seals_all, says_all, says_void}
+use Rattle.desk.proofs.stamps.Assembly.{Grow, behind, outcome_in, have_effects, reserves_all, seals_all, says_all}
+use Rattle.desk.proofs.stamps.Assembly.{says_void}
 use Rattle.desk.proofs.stamps.Assembly.{move_in_turn, signers_counted, are_fit, all_wait}
 use Rattle.desk.proofs.stamps.BatchJudgement.{judged_sound}
 use Rattle.desk.proofs.stamps.Batches.{ShowLaws, shows_itself, shows_over, reaches, judges_itself, stamp_shape}
 use Rattle.desk.proofs.stamps.Batches.{sound_adds, unsigned, fit_each, cut_once_reserved, cut_at_whole}
-use Rattle.desk.proofs.stamps.Committed.{none_accepted, accepted_none, none_committed, commit_honest, commit_counted, commit_stands, commit_kept}
+use Rattle.desk.proofs.stamps.Committed.{none_accepted, accepted_none, none_committed, commit_honest, commit_counted}
+use Rattle.desk.proofs.stamps.Committed.{commit_stands, commit_kept}
 use Rattle.desk.proofs.stamps.Completions.{IsSealOf, of_more, seals_among, seals_fit, void_seals}
-use Rattle.desk.proofs.calls.Fits.{is_refused}
-use Rattle.desk.proofs.journeys.Promised.{keeps_promises}
-use Rattle.desk.proofs.journeys.Sound.{TextLaws}
+use Rattle.desk.proofs.{calls.Fits.is_refused, journeys.Promised.keeps_promises, journeys.Sound.TextLaws}
 
 -- what is promised of each stamp of a run
 promised_along : {S : Type 0} (signs : S → List ℕ → Result (List ℕ) SignerFault → S → Type 0) → TextLaws
@@ -218,7 +207,7 @@ ends_whole s sealing js zs b of =
     ∙ ap (λ rs. with_sealed (seals_of sealing zs) (with_reserved rs b)) (reserves_all s sealing js zs)
 
 -- what waits is for stamps that pass the rules 1 to 9
-passing_before : (file : PolicyValue) (v : Verdict) (a : Question) (asked : List Question) (ws : List Waiting)
+passing_before : (file : PolicyValue) (v : Verdict) (a : Question) (asked : List Question) (ws : List WaitingStamp)
     → ((rule : Rule) → IsFirstFailing (HoldsUnasked file a.account a.octets) rule → rule_of v ≡ Some rule)
     → IsItsOwn a v → AreOfSome (IsForPassing file) asked (map waiting_view ws)
     → AreOfSome (IsForPassing file) (a ∷ asked) (map waiting_view (waiting_before v ws))
@@ -235,7 +224,7 @@ passing s (j ∷ js) rightly =
     (passing s js rightly.1)
 
 all_passing : {B : Type 0} (g : Ghosts B) (s : Setting) (asked : List Question) (rules : List (Option Rule))
-    (ws : List Waiting) (old new : B) → JudgesEach g s asked rules ws old new
+    (ws : List WaitingStamp) (old new : B) → JudgesEach g s asked rules ws old new
     → AreOfSome (IsForPassing s.file) asked (map waiting_view ws)
 all_passing g s asked rules ws old new h =
     subst (λ qs. AreOfSome (IsForPassing s.file) qs (map waiting_view ws)) h.questions
@@ -243,7 +232,7 @@ all_passing g s asked rules ws old new h =
     (passing s h.stamps h.rightly))
 
 -- Both commits, with what an earlier try counted.
-record HaveCommitted {B : Type 0} (g : Ghosts B) (s : Setting) (asked : List Question) (ws : List Waiting)
+record HaveCommitted {B : Type 0} (g : Ghosts B) (s : Setting) (asked : List Question) (ws : List WaitingStamp)
     (sealing : Call) (old begun new : B) : Type 0 where
   looks : List Outcome
   uncommitted : AllByRecursion (λ o. (o.adding ≡ Fine) × (o.sealing ≡ Fine)) looks
@@ -253,7 +242,7 @@ record HaveCommitted {B : Type 0} (g : Ghosts B) (s : Setting) (asked : List Que
   accepted : if_accepted reserving commits.reserved ≡ map waiting_view ws
 
 -- what an earlier try left as it was, and counted
-module _ {B : Type 0} (g : Ghosts B) (s : Setting) (asked : List Question) (ws : List Waiting) (old begun : B) where
+module _ {B : Type 0} (g : Ghosts B) (s : Setting) (asked : List Question) (ws : List WaitingStamp) (old begun : B) where
   pub tried_honest : IsTried g s asked ws old begun → g.honest begun → g.honest old
   tried_honest (at_once same) honest = subst g.honest same honest
   tried_honest (anew rules tried reserving mid h commit refusal none) honest =
@@ -292,7 +281,7 @@ module _ {B : Type 0} (g : Ghosts B) (s : Setting) (asked : List Question) (ws :
   }
   tried_commits vs sealing judged held new (anew rules tried reserving mid h commit refusal none) pass numbers fit
       looks reserves seals =
-      let entries = λ (ws : List Waiting). map Reserved (map waiting_view ws) in
+      let entries = λ (ws : List WaitingStamp). map Reserved (map waiting_view ws) in
       let nothing = ap (map waiting_view) none ∙ sym (none_accepted reserving (map waiting_view tried) refusal) in
       record {
         looks = all_looks h.stamps;
@@ -422,7 +411,7 @@ module _ {B S : Type 0} (g : Ghosts B) (signs : S → List ℕ → Result (List 
       }
 
   -- where something was reserved, the store is open
-  held_open : (ws : List Waiting) (mid held : B) → IsCommitted g (map Reserved (map waiting_view ws)) mid held Fine
+  held_open : (ws : List WaitingStamp) (mid held : B) → IsCommitted g (map Reserved (map waiting_view ws)) mid held Fine
       → g.honest held → ((ws ≡ []) × (held ≡ mid)) ⊎ g.is_open held
   held_open ws mid held (untried none fine same) honest =
       inl (map_none waiting_view ws (map_none Reserved (map waiting_view ws) none), same)
@@ -579,7 +568,7 @@ module _ {B S : Type 0} (g : Ghosts B) (signs : S → List ℕ → Result (List 
         },
       )
 
-  pub assembled : (asked : List Question) (rules : List (Option Rule)) (ws : List Waiting)
+  pub assembled : (asked : List Question) (rules : List (Option Rule)) (ws : List WaitingStamp)
       (ss : List (Result (List ℕ) SignerFault)) (vs : List SealValue) (answers told : List Answer) (sealing : Call)
       (old begun mid held : B) (x : S) (new : B) (y : S) → IsTried g s asked ws old begun
       → JudgesEach g s asked rules ws begun mid

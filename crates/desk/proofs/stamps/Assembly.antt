@@ -2,34 +2,29 @@
 use Rattle.std.proofs.Common.{◌≡◌, ℕ, ◌<◌, ◌≤◌, List, [], ◌∷◌, ◌++◌, map, Option, Result, Ok, Err}
 use Rattle.std.proofs.Common.{refl, sym, ap, ◌∙◌, subst, arith}
 use Rattle.std.specs.List.{AllByRecursion}
-use Rattle.tsp.specs.declared.rule.Rule.{Rule}
-use Rattle.tsp.specs.declared.rule.Rule.TheVariants.{System}
+use Rattle.tsp.specs.{declared.rule.Rule.Rule, declared.rule.Rule.TheVariants.System}
 use Rattle.cms.specs.Signer.{count_after, count_after_each, SignsEach}
 use Rattle.cms.specs.declared.signer.SignerFault.{SignerFault}
 use Rattle.cms.specs.declared.signer.SignerFault.TheVariants as signer
 use Rattle.book.specs.History.{Reserved, History, ReservationValue, reservations}
-use Rattle.book.specs.History.{greatest_serial}
-use Rattle.book.specs.Sound.{FitsReserved, IsSound}
+use Rattle.book.specs.{History.greatest_serial, Sound.FitsReserved, Sound.IsSound}
 use Rattle.desk.specs.Batches.{Question, stamp_for, seals, with_reserved, HaveEffects}
 use Rattle.desk.specs.Batches.{all_reserved, all_sealed, MoveInTurn}
 use Rattle.desk.specs.Command.{Setting, PendingValue, Answer, Begin, Rejected}
 use Rattle.desk.specs.auxiliary.Completions.{Completion, finished, completed, seals_of, texts_of, AreWaiting}
 use Rattle.desk.specs.Effects.{Effect, only, name_of, in_seal, for_reply, rule_by}
-use Rattle.desk.specs.Findings.{Fails, Allowed}
-use Rattle.desk.specs.Fit.{IsFit, IsUncounted}
 use Rattle.desk.specs.Outcome.{Call, Fine, Outcome, Cause, ByRule, ByCause, all_fine}
-use Rattle.desk.specs.MachineStep.{HasEffect, IsWaiting}
-use Rattle.desk.specs.auxiliary.Verdicts.{Verdict, Settled, Waits, JudgedStamp, rule_of, rules_of, met_by, waiting_before}
-use Rattle.desk.specs.Together.{AreFit}
+use Rattle.desk.specs.auxiliary.Verdicts.{Verdict, Settled, Waits, JudgedStamp, rule_of, rules_of, met_by}
+use Rattle.desk.specs.auxiliary.Verdicts.{waiting_before}
 use Rattle.desk.specs.auxiliary.Verdicts.{waits_of, reserved_for, IsJudgedAs, AreJudged, IsJudgedRightly, merged}
 use Rattle.desk.specs.WaitingStamps.{waiting_view, pending_in, pendings_in, with_waiting}
 use Rattle.desk.specs.auxiliary.Wholes.{joined, ending, added, stamped}
-use Rattle.desk.specs.declared.waiting_stamp.Waiting.{Waiting}
+use Rattle.desk.specs.{Findings.Fails, Findings.Allowed, Fit.IsFit, Fit.IsUncounted, MachineStep.HasEffect}
+use Rattle.desk.specs.{MachineStep.IsWaiting, Together.AreFit, declared.waiting_stamp.WaitingStamp.WaitingStamp}
 use Rattle.desk.proofs.stamps.BatchJudgement.{waiting_fits, with_before}
-use Rattle.desk.proofs.stamps.Beginnings.{unanswered_found}
-use Rattle.desk.proofs.stamps.Completions.{first_of, void_one}
 use Rattle.desk.proofs.stamps.Stamps.{awaited, stamp_calls, stamp_fits}
 use Rattle.desk.proofs.journeys.Views.{fits_seal, reservation_stays}
+use Rattle.desk.proofs.{stamps.Beginnings.unanswered_found, stamps.Completions.first_of, stamps.Completions.void_one}
 
 abbrev pub questions_of : List JudgedStamp → List Question
 questions_of js = map (λ j. j.question) js
@@ -115,7 +110,7 @@ have_effects s sealing (j ∷ js) zs b h =
     )
 
 -- all that they reserve, seal and say
-reserves_step : (s : Setting) (sealing : Call) (v : Verdict) (zs : List Completion) (ws : List Waiting)
+reserves_step : (s : Setting) (sealing : Call) (v : Verdict) (zs : List Completion) (ws : List WaitingStamp)
     (rs : List ReservationValue) → rs ≡ map waiting_view ws
     → reservations (effect_in s sealing v zs).adds ++ rs ≡ map waiting_view (waiting_before v ws)
 reserves_step s sealing (Settled why o) zs ws rs is = is
@@ -135,14 +130,14 @@ reserves_all s sealing (j ∷ js) zs =
 abbrev pub AreOf : Setting → List JudgedStamp → List Completion → Type 0
 AreOf s js zs = pendings_of zs ≡ pendings_in s (waits_of js)
 
-of_behind : (s : Setting) (v : Verdict) (zs : List Completion) (ws : List Waiting)
+of_behind : (s : Setting) (v : Verdict) (zs : List Completion) (ws : List WaitingStamp)
     → pendings_of zs ≡ pendings_in s (waiting_before v ws) → pendings_of (behind v zs) ≡ pendings_in s ws
 of_behind s (Settled why o) zs ws of = of
 of_behind s (Waits w) [] ws of = absurd cc
 of_behind s (Waits w) (z ∷ zs) ws of =
     (first_of z.pending (pending_in s w) (pendings_of zs) (pendings_in s ws) of).1
 
-seals_step : (s : Setting) (sealing : Call) (v : Verdict) (zs : List Completion) (ws : List Waiting)
+seals_step : (s : Setting) (sealing : Call) (v : Verdict) (zs : List Completion) (ws : List WaitingStamp)
     (es : List Effect) → pendings_of zs ≡ pendings_in s (waiting_before v ws)
     → all_sealed es ≡ seals_of sealing (behind v zs)
     → all_sealed (effect_in s sealing v zs ∷ es) ≡ seals_of sealing zs
@@ -166,7 +161,7 @@ seals_all s sealing (j ∷ js) zs of =
 abbrev pub replies_of : List Completion → List Answer
 replies_of zs = map (λ z. (completed Fine z).says) zs
 
-says_step : (s : Setting) (v : Verdict) (zs : List Completion) (ws : List Waiting) (vs : List (Option Rule))
+says_step : (s : Setting) (v : Verdict) (zs : List Completion) (ws : List WaitingStamp) (vs : List (Option Rule))
     (answers : List Answer) → pendings_of zs ≡ pendings_in s (waiting_before v ws)
     → answers ≡ merged vs (replies_of (behind v zs))
     → (effect_in s Fine v zs).says ∷ answers ≡ merged (rule_of v ∷ vs) (replies_of zs)
@@ -210,7 +205,7 @@ says_void s sealing h (j ∷ js) zs =
 
 -- a stamp that waited moves the signer by its text
 move_step : {S : Type 0} (signs : S → List ℕ → Result (List ℕ) SignerFault → S → Type 0) (s : Setting)
-    (sealing : Call) (v : Verdict) (zs : List Completion) (ws : List Waiting) (es : List Effect) (os : List Outcome)
+    (sealing : Call) (v : Verdict) (zs : List Completion) (ws : List WaitingStamp) (es : List Effect) (os : List Outcome)
     (x y : S) → SignsEach signs x (texts_of (pendings_in s (waiting_before v ws))) (signings_of zs) y
     → ((z : S) → SignsEach signs z (texts_of (pendings_in s ws)) (signings_of (behind v zs)) y
     → MoveInTurn signs es os z y)
@@ -237,7 +232,7 @@ move_in_turn signs s sealing (j ∷ js) zs x y moves =
     moves (λ z more. move_in_turn signs s sealing js zs' z y more)
 
 -- The counts: of a stamp that waited those of its signature, and of another none.
-signer_step : (s : Setting) (sealing : Call) (v : Verdict) (zs : List Completion) (ws : List Waiting)
+signer_step : (s : Setting) (sealing : Call) (v : Verdict) (zs : List Completion) (ws : List WaitingStamp)
     (others : List (Result (List ℕ) SignerFault)) (n : ℕ) → pendings_of zs ≡ pendings_in s (waiting_before v ws)
     → (met_by v).signing ≡ Ok []
     → ((m : ℕ) → count_after_each (signings_of (behind v zs)) m ≡ count_after_each others m)
@@ -309,7 +304,7 @@ stays_among s (j ∷ js) b p h waits =
     (stays_among s js (reserved_for j.verdict b) p h.1 (stays_one s j.question j.verdict b p h.0 waits))
 
 -- serial numbers rise
-rise_step : (s : Setting) (a : Question) (v : Verdict) (ws : List Waiting) (b : History) (n : ℕ) → IsJudgedAs s a v b
+rise_step : (s : Setting) (a : Question) (v : Verdict) (ws : List WaitingStamp) (b : History) (n : ℕ) → IsJudgedAs s a v b
     → n ≤ greatest_serial b
     → (n ≤ greatest_serial (reserved_for v b) → AllByRecursion (λ q. n < q.serial) (pendings_in s ws))
     → AllByRecursion (λ q. n < q.serial) (pendings_in s (waiting_before v ws))

@@ -1,39 +1,28 @@
 -- Stamps of a batch are judged one after the other.
 use Rattle.std.proofs.Common.{◌≡◌, ◌<◌, ◌≤◌, nat_le, cond, ℕ, ℤ, ◌+◌, List, [], ◌∷◌, ◌++◌, length, Option, Some, None}
 use Rattle.std.proofs.Common.{Ok, Err, Bool, true, false, inl, inr, refl, sym, ap, ◌∙◌, subst, take, get_or, arith}
-use Rattle.std.specs.List.{AllByRecursion}
-use Rattle.std.specs.Prelude.{Result, IfOk, IfErr}
-use Rattle.std.proofs.lemmas.Bool.Decides.{nat_tests}
-use Rattle.std.proofs.lemmas.List.{take_more, map-append}
+use Rattle.std.proofs.{lemmas.Bool.Decides.nat_tests, lemmas.List.take_more, lemmas.List.map-append}
+use Rattle.std.specs.{List.AllByRecursion, Prelude.Result, Prelude.IfOk, Prelude.IfErr}
 use Rattle.policy.specs.Record.{AccountValue}
 use Rattle.der.specs.ObjectIdentifier.{oid_content}
-use Rattle.tsp.specs.Rules.{IsFirstFailing}
-use Rattle.tsp.specs.declared.rule.Rule.{Rule}
-use Rattle.book.specs.declared.standing.Standing.{Ghosts}
-use Rattle.book.specs.History.{Reserved, History, greatest_serial}
-use Rattle.book.specs.Sound.{FitsReserved, IsSound, greatest_number}
-use Rattle.book.specs.Stands.{Stands, OnlyLooks}
-use Rattle.desk.specs.Batches.{Question, faults_along}
+use Rattle.tsp.specs.{Rules.IsFirstFailing, declared.rule.Rule.Rule}
+use Rattle.book.specs.{declared.standing.Standing.Ghosts, History.Reserved, History.History, History.greatest_serial}
+use Rattle.book.specs.{Sound.FitsReserved, Sound.IsSound, Sound.greatest_number, Stands.Stands, Stands.OnlyLooks}
 use Rattle.desk.specs.auxiliary.Beginnings.{IsSettled, IsAwaited, WaitsFor, IsUnwritten, IsOfJudging}
 use Rattle.desk.specs.Calls.{IsSomebodys, finding_by, refused, why_of}
-use Rattle.desk.specs.Command.{Setting, Begin}
-use Rattle.desk.specs.Effects.{name_of, no_number, rule_by}
 use Rattle.desk.specs.Findings.{StampPlan, HoldsUnasked, Unanswered, Allowed, Finds}
-use Rattle.desk.specs.Fit.{IsFit}
 use Rattle.desk.specs.Outcome.{Call, Fine, OutOfMemory, Failed, Outcome, Cause, OfMemory, OfStore, cause_of}
 use Rattle.desk.specs.Outcome.{Refusal, ByRule, ByCause, first_cause, all_fine, faults_after}
-use Rattle.desk.specs.Texts.{tst_of, reservation_of}
-use Rattle.desk.specs.Together.{question_view, questions_view}
 use Rattle.desk.specs.auxiliary.Verdicts.{Verdict, Settled, Waits, JudgedStamp, rule_of}
 use Rattle.desk.specs.auxiliary.Verdicts.{looks_of, all_looks, waiting_before, waits_of, reserved_for, IsJudgedAs}
 use Rattle.desk.specs.auxiliary.Verdicts.{AreJudged, IsJudgedRightly, JudgesEach, JudgesOne, JudgesAs, IsKept}
 use Rattle.desk.specs.WaitingStamps.{waiting_view, pending_in, with_waiting}
-use Rattle.desk.specs.declared.batch.Asked.{Asked}
-use Rattle.desk.specs.declared.refusal.StampRefusal.{StampRefusal}
+use Rattle.desk.specs.{Batches.Question, Batches.faults_along, Command.Setting, Command.Begin, Effects.name_of}
+use Rattle.desk.specs.{Effects.no_number, Effects.rule_by, Fit.IsFit, Texts.tst_of, Texts.reservation_of}
+use Rattle.desk.specs.{Together.question_view, Together.questions_view, declared.batch.Asked.Asked}
+use Rattle.desk.specs.{declared.refusal.StampRefusal.StampRefusal, declared.waiting_stamp.WaitingStamp.WaitingStamp}
 use Rattle.desk.specs.declared.refusal.StampRefusal.TheVariants as refusal
-use Rattle.desk.specs.declared.waiting_stamp.Waiting.{Waiting}
-use Rattle.desk.proofs.stamps.Batches.{next_fits}
-use Rattle.desk.proofs.stamps.Judgement.{looks_then}
+use Rattle.desk.proofs.{stamps.Batches.next_fits, stamps.Judgement.looks_then}
 
 is_exhausted : (n : ℕ) → greatest_number ≤ n → nat_le greatest_number n ≡ true
 is_exhausted n h = grind (arith, nat_tests)
@@ -70,13 +59,13 @@ next_is s account plan octets serial gen_time algorithm digest tst moment is has
     rw (moment, is, hashed, text) refl
 
 -- what waits fits
-pub waiting_fits : (s : Setting) (a : Question) (b : History) (w : Waiting)
+pub waiting_fits : (s : Setting) (a : Question) (b : History) (w : WaitingStamp)
     → IsAwaited s a b (waiting_view w) (pending_in s w) → FitsReserved (waiting_view w) b
 waiting_fits s a b w h = subst (λ r. FitsReserved r b) (sym h.reserves)
     (next_fits s a.account a.reading a.octets (name_of a.account) b h.plan h.found.0 h.left)
 
 -- what waits for one more is reserved behind what was
-pub with_before : (v : Verdict) (ws : List Waiting) (b : History)
+pub with_before : (v : Verdict) (ws : List WaitingStamp) (b : History)
     → with_waiting (waiting_before v ws) b ≡ with_waiting ws (reserved_for v b)
 with_before (Settled why o) ws b = refl
 with_before (Waits w) ws b = refl
@@ -93,7 +82,7 @@ judged_sound s (j ∷ js) b h sound =
     subst IsSound (sym (with_before j.verdict (waits_of js) b))
     (judged_sound s js (reserved_for j.verdict b) h.1 (verdict_sound s j.question j.verdict b h.0 sound))
 
-before_both : (v : Verdict) (ws us : List Waiting) → waiting_before v ws ++ us ≡ waiting_before v (ws ++ us)
+before_both : (v : Verdict) (ws us : List WaitingStamp) → waiting_before v ws ++ us ≡ waiting_before v (ws ++ us)
 before_both (Settled why o) ws us = refl
 before_both (Waits w) ws us = refl
 
@@ -122,7 +111,7 @@ pub all_next : {X : Type 0} (P : X → Type 0) (xs : List X) (x : X) → AllByRe
 all_next P [] x all one = (one, tt)
 all_next P (y ∷ xs) x all one = (all.0, all_next P xs x all.1 one)
 
-waiting_then : (ws us : List Waiting) (b : History) → with_waiting (ws ++ us) b ≡ with_waiting us (with_waiting ws b)
+waiting_then : (ws us : List WaitingStamp) (b : History) → with_waiting (ws ++ us) b ≡ with_waiting us (with_waiting ws b)
 waiting_then [] us b = refl
 waiting_then (w ∷ ws) us b = waiting_then ws us (Reserved (waiting_view w) ∷ b)
 
@@ -142,7 +131,7 @@ judges_none g s old = record {
 
 -- one more is judged
 pub judges_next : {B : Type 0} (g : Ghosts B) (s : Setting) (asked : List Question) (a : Question)
-    (rules rules' : List (Option Rule)) (ws ws' : List Waiting) (v : Verdict) (old mid new : B)
+    (rules rules' : List (Option Rule)) (ws ws' : List WaitingStamp) (v : Verdict) (old mid new : B)
     → JudgesEach g s asked rules ws old mid → JudgesOne g s a ws v mid new → IsKept v rules rules' ws ws'
     → JudgesEach g s (asked ++ (a ∷ [])) rules' ws' old new
 judges_next g s asked a rules rules' ws ws' v old mid new all one more =
@@ -211,7 +200,7 @@ judging_fits account reading octets (refusal.Sealing f) of somebody =
     absurd (elim of [ inl x ↦ x | inr x ↦ elim x [ inl e ↦ cc | inr e ↦ cc ] ])
 
 -- nothing is reserved for it
-pub judged_err : {B : Type 0} (g : Ghosts B) (s : Setting) (a : Question) (ws : List Waiting) (r : StampRefusal)
+pub judged_err : {B : Type 0} (g : Ghosts B) (s : Setting) (a : Question) (ws : List WaitingStamp) (r : StampRefusal)
     (old new : B) → IsOfJudging r → IsSomebodys a.account r → OnlyLooks g old new
     → g.fault_count new ≡ faults_after (refused r) (g.fault_count old)
     → (g.honest new → (b : History) → Stands g b old → IsSound (with_waiting ws b)
@@ -272,8 +261,8 @@ unwritten_of account last r (inr h) =
     (inr (inr refl), tt, λ n. refl)
 
 -- no rule fails
-pub judged_planned : {B : Type 0} (g : Ghosts B) (s : Setting) (a : Question) (ws : List Waiting) (plan : StampPlan)
-    (last : ℕ) (judged : Result Waiting StampRefusal) (old new : B)
+pub judged_planned : {B : Type 0} (g : Ghosts B) (s : Setting) (a : Question) (ws : List WaitingStamp) (plan : StampPlan)
+    (last : ℕ) (judged : Result WaitingStamp StampRefusal) (old new : B)
     → IfOk judged (WaitsFor s (name_of a.account) plan a.octets last) → IfErr judged (IsUnwritten last)
     → OnlyLooks g old new → g.fault_count new ≡ g.fault_count old
     → (g.honest new → (b : History) → Stands g b old → IsSound (with_waiting ws b)
@@ -321,7 +310,7 @@ judged_planned g s a ws plan last (Err r) old new h unwritten looks counted find
     (finds honest b stands sound) (is_last honest b stands sound)) (λ rule first. absurd (unasked rule first))
 
 -- one waits, and the commit of its reservation was refused
-pub judged_refused : {B : Type 0} (g : Ghosts B) (s : Setting) (a : Question) (w : Waiting) (reserving : Call)
+pub judged_refused : {B : Type 0} (g : Ghosts B) (s : Setting) (a : Question) (w : WaitingStamp) (reserving : Call)
     (cause : Cause) (old new : B) → first_cause (cause_of reserving ∷ []) ≡ Some cause
     → JudgesOne g s a [] (Waits w) old new
     → JudgesOne g s a [] (Settled (ByCause cause) (record (all_fine (Ok [])) { adding = reserving })) old new

@@ -1,41 +1,31 @@
 -- Stamps that are answered together are a run of the machine, and a stop in a batch is a stop in a run.
 use Rattle.std.proofs.Common.{◌≡◌, ℕ, ◌<◌, ◌==◌, ℤ, List, [], ◌∷◌, ◌++◌, map, Option, Some, None, Result}
 use Rattle.std.proofs.Common.{Ok, Err, refl, sym, ◌∙◌, ap, subst, inl, inr, arith, length, drop, count_by}
-use Rattle.std.specs.List.{find, cons_option}
 use Rattle.std.proofs.lemmas.List.{append-nil, map-append}
+use Rattle.std.specs.List.{find, cons_option}
 use Rattle.policy.specs.Record.{AccountValue, PolicyValue}
 use Rattle.tsp.specs.declared.rule.Rule.{Rule}
 use Rattle.tsp.specs.declared.rule.Rule.TheVariants.{Spelling, Version, Account, Algorithm, HashLength, Policy}
 use Rattle.tsp.specs.declared.rule.Rule.TheVariants.{PolicyAlgorithm, Extensions, Certificate, Clock, Quota, System}
-use Rattle.cms.specs.SignedData.{attribute_text}
-use Rattle.cms.specs.declared.signer.SignerFault.{SignerFault}
+use Rattle.cms.specs.{SignedData.attribute_text, declared.signer.SignerFault.SignerFault}
 use Rattle.cms.specs.declared.signer.SignerFault.TheVariants as signer
-use Rattle.book.specs.Entries.{with_all, FitInTurn}
 use Rattle.book.specs.History.{Entry, Reserved, Sealed, History, ReservationValue, reservations}
 use Rattle.book.specs.History.{calibrations, holds, greatest_serial, last_gen_time, latest_calibration, count_of_day}
-use Rattle.book.specs.History.{day_of, is_of_day}
-use Rattle.book.specs.Shows.{ShowsSame}
 use Rattle.book.specs.Sound.{FitsReserved, FitsSealed, IsSound, greatest_number}
+use Rattle.book.specs.{Entries.with_all, Entries.FitInTurn, History.day_of, History.is_of_day, Shows.ShowsSame}
 use Rattle.desk.specs.Facts.{facts_of, is_held_at, now_in, count_in, gen_time_in, gen_time_of}
-use Rattle.desk.specs.Outcome.{Outcome, Cause}
 use Rattle.desk.specs.Findings.{StampPlan, IsAllowed, IsAnsweredFor, IsUnjudged, Finding, Fails, Unanswered, Allowed}
-use Rattle.desk.specs.Findings.{Finds}
-use Rattle.desk.specs.Command.{Setting, PendingValue, Answer}
-use Rattle.desk.specs.Texts.{pending_of, token_with}
 use Rattle.desk.specs.Effects.{Effect, no_number, no_seal, next_reservation, sealed_or_void, signed_or_void}
-use Rattle.desk.specs.Effects.{stamping_of, stamp_effect, stamp_found, name_of}
-use Rattle.desk.specs.MachineStep.{HasEffect, Moves}
-use Rattle.desk.specs.MachineRuns.{Runs, Told, after}
-use Rattle.desk.specs.Laws.{Continues}
-use Rattle.desk.specs.auxiliary.Wholes.{joined}
 use Rattle.desk.specs.Batches.{Question, stamp_for, stamps_for, SealValue, seals, seal_entry, with_reserved}
 use Rattle.desk.specs.Batches.{with_sealed, HaveEffects, all_reserved, all_sealed, batch_of, MoveInTurn}
 use Rattle.desk.specs.Batches.{after_batch, once_reserved, IsRunTogether, IsLeftInBatch, IsCutTogether}
+use Rattle.desk.specs.{Outcome.Outcome, Outcome.Cause, Findings.Finds, Command.Setting, Command.PendingValue}
+use Rattle.desk.specs.{Command.Answer, Texts.pending_of, Texts.token_with, Effects.stamping_of, Effects.stamp_effect}
+use Rattle.desk.specs.{Effects.stamp_found, Effects.name_of, MachineStep.HasEffect, MachineStep.Moves, MachineRuns.Runs}
+use Rattle.desk.specs.{MachineRuns.Told, MachineRuns.after, Laws.Continues, auxiliary.Wholes.joined, Effects.for_reply}
 use Rattle.desk.proofs.journeys.SameEffect.{finds_same, found_same, held_same}
 use Rattle.desk.proofs.journeys.Sound.{gen_time_bound, number_left, not_full}
-use Rattle.desk.proofs.journeys.Views.{fits_seal, reservation_stays}
-use Rattle.desk.specs.Effects.{for_reply}
-use Rattle.desk.proofs.journeys.Branches.{stamp_has}
+use Rattle.desk.proofs.{journeys.Views.fits_seal, journeys.Views.reservation_stays, journeys.Branches.stamp_has}
 
 -- what book says of histories that show the same
 pub record ShowLaws : Type 0 where

@@ -1,47 +1,35 @@
 -- A stamp up to its reservation: what decides it, and the step that a beginning is.
 use Rattle.std.proofs.Common.{◌≡◌, ◌⊎◌, ℕ, ◌≤◌, nat_le, cond, Bool, true, false, List, [], ◌++◌, ◌∷◌, Option, Some}
 use Rattle.std.proofs.Common.{ℤ, None, Result, Ok, Err, refl, sym, ap, ◌∙◌, subst, inl, inr, arith}
-use Rattle.std.specs.Prelude.{IfErr}
 use Rattle.std.proofs.lemmas.Bool.Decides.{nat_tests}
+use Rattle.std.specs.Prelude.{IfErr}
 use Rattle.policy.specs.Record.{AccountValue}
-use Rattle.tsp.specs.Rules.{IsFirstFailing}
-use Rattle.tsp.specs.declared.rule.Rule.{Rule}
+use Rattle.tsp.specs.{Rules.IsFirstFailing, declared.rule.Rule.Rule}
 use Rattle.cms.specs.declared.signer.SignerFault.{SignerFault}
-use Rattle.book.specs.Entries.{Appends}
-use Rattle.book.specs.Fault.{IsOfStorage}
-use Rattle.book.specs.declared.standing.Standing.{Ghosts}
 use Rattle.book.specs.History.{Entry, Reserved, History, ReservationValue, greatest_serial}
-use Rattle.book.specs.Sound.{greatest_number}
 use Rattle.book.specs.declared.fault.StoreFault.{StoreFault}
-use Rattle.desk.specs.Answers.{ended_as}
-use Rattle.desk.specs.Batches.{Question}
-use Rattle.desk.specs.auxiliary.Beginnings.{unanswered_by, IsSettled, IsAwaited, IsOfBeginning, IsReserved, Settles, Reserves}
-use Rattle.desk.specs.auxiliary.Beginnings.{Begins}
+use Rattle.book.specs.{Entries.Appends, Fault.IsOfStorage, declared.standing.Standing.Ghosts, Sound.greatest_number}
+use Rattle.desk.specs.auxiliary.Beginnings.{unanswered_by, IsSettled, IsAwaited, IsOfBeginning, IsReserved, Settles}
+use Rattle.desk.specs.auxiliary.Beginnings.{Reserves}
 use Rattle.desk.specs.CallContract.{SignerStep, no_signer, IsBlamedFor, IsBlamed, IsExcused, IsSpentIn, IsOpened}
 use Rattle.desk.specs.CallContract.{StepsBy, StepsWhere, IsDoubted, in_doubt}
 use Rattle.desk.specs.Calls.{call_of, store_cause, why_of, refused, outcome_of, IsOfLooks}
 use Rattle.desk.specs.Command.{Setting, PendingValue, Command, Begin, Begun, Rejected, Refused}
 use Rattle.desk.specs.Effects.{Effect, Purpose, refused_for, for_parts, only, fault_of, no_number, begin_effect}
-use Rattle.desk.specs.Effects.{begin_found}
 use Rattle.desk.specs.Effects.{purpose_effect, purpose_found, stamping_of, name_of}
 use Rattle.desk.specs.Findings.{Finding, HoldsUnasked, Fails, Unanswered, Allowed, Finds}
-use Rattle.desk.specs.Fit.{IsFit}
-use Rattle.desk.specs.MachineStep.{HasEffect, IsMet}
 use Rattle.desk.specs.Outcome.{Call, Fine, OutOfMemory, Failed, Outcome, Cause, OfMemory, OfStore, first_cause}
-use Rattle.desk.specs.Outcome.{Refusal, ByRule, ByCause}
-use Rattle.desk.specs.Outcome.{all_fine, faults_after}
-use Rattle.desk.specs.Texts.{pending_of}
 use Rattle.desk.specs.auxiliary.Verdicts.{Settled, Waits, JudgesOne, JudgesAs}
-use Rattle.desk.specs.WaitingStamps.{waiting_view, pending_in}
-use Rattle.desk.specs.declared.refusal.StampRefusal.{StampRefusal}
+use Rattle.desk.specs.{Answers.ended_as, Batches.Question, auxiliary.Beginnings.Begins, Effects.begin_found, Fit.IsFit}
+use Rattle.desk.specs.{MachineStep.HasEffect, MachineStep.IsMet, Outcome.Refusal, Outcome.ByRule, Outcome.ByCause}
+use Rattle.desk.specs.{Outcome.all_fine, Outcome.faults_after, Texts.pending_of, WaitingStamps.waiting_view}
+use Rattle.desk.specs.{WaitingStamps.pending_in, declared.refusal.StampRefusal.StampRefusal, auxiliary.Wholes.answer_by}
+use Rattle.desk.specs.{declared.waiting_stamp.WaitingStamp.WaitingStamp}
 use Rattle.desk.specs.declared.refusal.StampRefusal.TheVariants as refusal
-use Rattle.desk.specs.auxiliary.Wholes.{answer_by}
 use Rattle.desk.specs.declared.fault.Fault.TheVariants as fault
-use Rattle.desk.specs.declared.waiting_stamp.Waiting.{Waiting}
 use Rattle.desk.proofs.stamps.BatchJudgement.{begin_calls, waiting_fits, left_number, judged_refused}
-use Rattle.desk.proofs.stamps.Committed.{counted_as}
 use Rattle.desk.proofs.calls.Fits.{none_failed, is_refused}
-use Rattle.desk.proofs.stamps.Judgement.{same_cause}
+use Rattle.desk.proofs.{stamps.Committed.counted_as, stamps.Judgement.same_cause}
 
 -- nothing is added where a call had no answer
 pub unanswered_found : (u : Purpose) (s : Setting) (name octets : List ℕ) (o : Outcome) (b : History) (cause : Cause)
@@ -267,7 +255,7 @@ settles g s a why o old new h counted = record {
 }
 
 -- its reservation is committed
-reserves : {B : Type 0} (g : Ghosts B) (s : Setting) (a : Question) (w : Waiting) (p : PendingValue)
+reserves : {B : Type 0} (g : Ghosts B) (s : Setting) (a : Question) (w : WaitingStamp) (p : PendingValue)
     (old mid new : B) → JudgesOne g s a [] (Waits w) old mid → IsReserved g s (Ok w) (Ok p) mid new
     → Reserves g s a p old new
 reserves g s a w p old mid new h is = record {
@@ -283,7 +271,7 @@ reserves g s a w p old mid new h is = record {
 }
 
 -- and where that is refused, it is settled
-reserves_none : {B : Type 0} (g : Ghosts B) (s : Setting) (a : Question) (w : Waiting) (f : StoreFault)
+reserves_none : {B : Type 0} (g : Ghosts B) (s : Setting) (a : Question) (w : WaitingStamp) (f : StoreFault)
     (old mid new : B) → JudgesOne g s a [] (Waits w) old mid → IsOfStorage f
     → Appends {A = Unit {0}} g (Reserved (waiting_view w) ∷ []) mid new (Err f)
     → Settles g s a (ByCause (store_cause f)) (refused (refusal.Adding f)) old new
@@ -313,7 +301,7 @@ reserves_none g s a w f old mid new h storage is =
     }
 
 -- what is judged, and reserved where it waits, is a beginning
-pub begins : {B : Type 0} (g : Ghosts B) (s : Setting) (a : Question) (judged : Result Waiting StampRefusal)
+pub begins : {B : Type 0} (g : Ghosts B) (s : Setting) (a : Question) (judged : Result WaitingStamp StampRefusal)
     (result : Result PendingValue StampRefusal) (old mid new : B) → JudgesAs g s a [] judged old mid
     → IsReserved g s judged result mid new → Begins g s a result old new
 begins g s a (Ok w) (Ok p) old mid new h is = reserves g s a w p old mid new h.judges is
@@ -331,8 +319,8 @@ begins_refused g s a (Ok p) old new h = tt
 begins_refused g s a (Err r) old new h = h.0
 
 -- one that fails one of the rules 1 to 9 is refused by it, and nothing is done
-pub begins_unasked : {B : Type 0} (g : Ghosts B) (s : Setting) (a : Question) (ws : List Waiting)
-    (judged : Result Waiting StampRefusal) (result : Result PendingValue StampRefusal) (old mid new : B)
+pub begins_unasked : {B : Type 0} (g : Ghosts B) (s : Setting) (a : Question) (ws : List WaitingStamp)
+    (judged : Result WaitingStamp StampRefusal) (result : Result PendingValue StampRefusal) (old mid new : B)
     → JudgesAs g s a ws judged old mid → IsReserved g s judged result mid new → (rule : Rule)
     → IsFirstFailing (HoldsUnasked s.file a.account a.octets) rule
     → (result ≡ Err (refusal.Fails rule)) × (new ≡ old)

@@ -1,18 +1,14 @@
 -- What a commit of entries does, of which there may be none.
-use Rattle.std.proofs.Common.{◌≡◌, ℕ, ◌==◌, List, [], ◌∷◌, map, length, true, false, Result, Ok, Err, refl, sym, ◌∙◌, ap, subst}
-use Rattle.std.proofs.Common.{inl, inr}
-use Rattle.std.specs.Prelude.{IfErr}
-use Rattle.book.specs.declared.fault.StoreFault.{StoreFault}
-use Rattle.book.specs.declared.fault.StoreFault.TheVariants as store
-use Rattle.book.specs.declared.standing.Standing.{Ghosts}
-use Rattle.book.specs.Entries.{with_all, FitInTurn, Appends}
+use Rattle.std.proofs.{Common.◌≡◌, Common.ℕ, Common.◌==◌, Common.List, Common.[], Common.◌∷◌, Common.map, Common.length}
+use Rattle.std.proofs.{Common.true, Common.false, Common.Result, Common.Ok, Common.Err, Common.refl, Common.sym}
+use Rattle.std.proofs.{Common.◌∙◌, Common.ap, Common.subst, Common.inl, Common.inr}
+use Rattle.std.specs.{Prelude.IfErr, Result.is_err}
 use Rattle.book.specs.Fault.{IsOfStorage, count_after as count_faults}
-use Rattle.book.specs.History.{Entry, History}
-use Rattle.book.specs.Stands.{Stands}
-use Rattle.desk.specs.Calls.{call_of}
+use Rattle.book.specs.{declared.fault.StoreFault.StoreFault, declared.standing.Standing.Ghosts, Entries.with_all}
+use Rattle.book.specs.{Entries.FitInTurn, Entries.Appends, History.Entry, History.History, Stands.Stands}
+use Rattle.book.specs.declared.fault.StoreFault.TheVariants as store
 use Rattle.desk.specs.Commits.{call_for, if_accepted, IsCommitted, untried, added, refused}
-use Rattle.desk.specs.Outcome.{Call, Fine, OutOfMemory, Failed, counted}
-use Rattle.std.specs.Result.{is_err}
+use Rattle.desk.specs.{Calls.call_of, Outcome.Call, Outcome.Fine, Outcome.OutOfMemory, Outcome.Failed, Outcome.counted}
 use Rattle.desk.proofs.calls.Fits.{by_storage, is_refused}
 
 -- there are some

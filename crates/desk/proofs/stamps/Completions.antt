@@ -3,37 +3,28 @@ use Rattle.std.proofs.Common.{◌≡◌, ℕ, ◌<◌, ◌+◌, ◌==◌, List, 
 use Rattle.std.proofs.Common.{Err, refl, sym, ◌∙◌, ap, arith, append_assoc, append-nil, false, if◌then◌else◌, take}
 use Rattle.std.proofs.Common.{slice_index_or, Vec, inl, inr, subst}
 use Rattle.std.proofs.lemmas.List.{map-append, take_more}
-use Rattle.std.specs.Hash.DefaultHasher.{wrapping_add}
-use Rattle.std.specs.List.{AllByRecursion}
-use Rattle.book.specs.Entries.{FitInTurn}
+use Rattle.std.specs.{Hash.DefaultHasher.wrapping_add, List.AllByRecursion}
 use Rattle.book.specs.History.{Entry, Sealed, History, ReservationValue, token_of}
-use Rattle.book.specs.Sound.{Fits}
+use Rattle.book.specs.{Entries.FitInTurn, Sound.Fits}
 use Rattle.tsp.specs.declared.rule.Rule.TheVariants.{System}
-use Rattle.cms.specs.SignedData.{attribute_text}
 use Rattle.cms.specs.Signer.{signed_by, count_after_each}
-use Rattle.cms.specs.declared.signer.SignerFault.{SignerFault}
+use Rattle.cms.specs.{SignedData.attribute_text, declared.signer.SignerFault.SignerFault}
 use Rattle.cms.specs.declared.signer.SignerFault.TheVariants as signer
-use Rattle.desk.specs.Answers.{reply_as}
 use Rattle.desk.specs.Batches.{SealValue, seal_entry, with_sealed, seals}
 use Rattle.desk.specs.Command.{Setting, PendingValue, Answer, Stamped, Rejected}
-use Rattle.desk.specs.auxiliary.Completions.{texts_of, Completion, finished, completed, seals_of, AreWaiting, IsWritten, seal_view}
+use Rattle.desk.specs.auxiliary.Completions.{texts_of, Completion, finished, completed, seals_of, AreWaiting, IsWritten}
+use Rattle.desk.specs.auxiliary.Completions.{seal_view}
 use Rattle.desk.specs.auxiliary.Completions.{AreWritten, IsWrittenMore}
-use Rattle.desk.specs.Effects.{in_seal, for_reply, no_seal}
-use Rattle.desk.specs.Fit.{IsUncounted}
-use Rattle.desk.specs.Outcome.{Call, Fine, OutOfMemory, Failed, Outcome, Cause, OfMemory, OfStore, cause_of, first_cause}
-use Rattle.desk.specs.Sent.{texts_for}
-use Rattle.desk.specs.Texts.{token_with}
-use Rattle.desk.specs.Together.{AreOfSome}
+use Rattle.desk.specs.Outcome.{Call, Fine, OutOfMemory, Failed, Outcome, Cause, OfMemory, OfStore, cause_of}
+use Rattle.desk.specs.Outcome.{first_cause}
 use Rattle.desk.specs.auxiliary.Verdicts.{Verdict, Settled, Waits, JudgedStamp, waiting_before, waits_of, HasItsText}
-use Rattle.desk.specs.auxiliary.Verdicts.{IsJudgedRightly}
 use Rattle.desk.specs.WaitingStamps.{waiting_view, pending_in, pendings_in, HasText}
 use Rattle.desk.specs.auxiliary.Wholes.{token_or, ending, added, ended, answer_by, stamped}
-use Rattle.desk.specs.declared.completion.Seal.{Seal}
-use Rattle.desk.specs.declared.unsigned_token.Written.{Written}
-use Rattle.desk.specs.declared.reply.Reply.{Reply}
-use Rattle.desk.specs.declared.waiting_stamp.Waiting.{Waiting}
-use Rattle.desk.proofs.stamps.BatchJudgement.{all_next}
-use Rattle.desk.proofs.stamps.Endings.{waiting_fits}
+use Rattle.desk.specs.{Answers.reply_as, Effects.in_seal, Effects.for_reply, Effects.no_seal, Fit.IsUncounted}
+use Rattle.desk.specs.{Sent.texts_for, Texts.token_with, Together.AreOfSome, auxiliary.Verdicts.IsJudgedRightly}
+use Rattle.desk.specs.{declared.completion.Seal.Seal, declared.unsigned_token.Written.Written}
+use Rattle.desk.specs.{declared.reply.Reply.Reply, declared.waiting_stamp.WaitingStamp.WaitingStamp}
+use Rattle.desk.proofs.{stamps.BatchJudgement.all_next, stamps.Endings.waiting_fits}
 
 pub with_both : (vs us : List SealValue) (b : History) → with_sealed (vs ++ us) b ≡ with_sealed us (with_sealed vs b)
 with_both [] us b = refl
@@ -104,7 +95,7 @@ seal_among : (p : PendingValue) (end : Result (List ℕ) Cause) (r : Reservation
 seal_among p (Ok token) r rs vs is rest = inl (is, rest)
 seal_among p (Err cause) r rs vs is rest = of_more IsSealOf r rs vs rest
 
-pub seals_among : (s : Setting) (ws : List Waiting) (zs : List Completion)
+pub seals_among : (s : Setting) (ws : List WaitingStamp) (zs : List Completion)
     → map (λ z. z.pending) zs ≡ pendings_in s ws → AreOfSome IsSealOf (map waiting_view ws) (seals_of Fine zs)
 seals_among s ws [] of = tt
 seals_among s [] (z ∷ zs) of = absurd cc
@@ -151,7 +142,7 @@ mapped_more f xs i x within is =
     ∙ ap (λ y. map f (take i xs) ++ (f y ∷ [])) (sym is))
 
 -- the texts that are written are those to sign
-pub texts_written : (s : Setting) (ws : List Waiting) → AllByRecursion (HasText s) ws
+pub texts_written : (s : Setting) (ws : List WaitingStamp) → AllByRecursion (HasText s) ws
     → map (λ w. w.unsigned.text.items) ws ≡ texts_of (pendings_in s ws)
 texts_written s [] all = refl
 texts_written s (w ∷ ws) all =
@@ -160,14 +151,14 @@ texts_written s (w ∷ ws) all =
     (texts_written s ws all.1)
 
 -- and those of what is reserved
-pub texts_reserved : (s : Setting) (ws : List Waiting)
+pub texts_reserved : (s : Setting) (ws : List WaitingStamp)
     → texts_of (pendings_in s ws) ≡ texts_for s (map waiting_view ws)
 texts_reserved s [] = refl
 texts_reserved s (w ∷ ws) =
     ap (λ (texts : List (List ℕ)). attribute_text s.in_force.identity w.unsigned.tst.items ∷ texts)
     (texts_reserved s ws)
 
-text_before : (s : Setting) (v : Verdict) (ws : List Waiting) → HasItsText s v → AllByRecursion (HasText s) ws
+text_before : (s : Setting) (v : Verdict) (ws : List WaitingStamp) → HasItsText s v → AllByRecursion (HasText s) ws
     → AllByRecursion (HasText s) (waiting_before v ws)
 text_before s (Settled why o) ws text all = all
 text_before s (Waits w) ws text all = (text, all)

@@ -2,36 +2,25 @@
 use Rattle.std.proofs.Common.{◌≡◌, ℕ, List, [], ◌∷◌, ◌++◌, Option, Some, None, Result, Ok, Err, refl, sym, ◌∙◌}
 use Rattle.std.proofs.Common.{ap, subst, inl, inr}
 use Rattle.std.specs.Prelude.{OnOk, IfErr}
-use Rattle.book.specs.declared.standing.Standing.{Ghosts}
-use Rattle.cms.specs.Signer.{count_after}
-use Rattle.cms.specs.declared.signer.SignerFault.{SignerFault}
+use Rattle.book.specs.{declared.standing.Standing.Ghosts, Entries.Appends, Fault.IsOfStorage, History.History}
+use Rattle.book.specs.{Sound.FitsSealed, Stands.Stands, declared.fault.StoreFault.StoreFault}
+use Rattle.cms.specs.{Signer.count_after, declared.signer.SignerFault.SignerFault}
 use Rattle.cms.specs.declared.signer.SignerFault.TheVariants as signer
-use Rattle.book.specs.Entries.{Appends}
-use Rattle.book.specs.Fault.{IsOfStorage}
-use Rattle.book.specs.History.{History}
-use Rattle.book.specs.Sound.{FitsSealed}
-use Rattle.book.specs.Stands.{Stands}
-use Rattle.book.specs.declared.fault.StoreFault.{StoreFault}
 use Rattle.book.specs.declared.fault.StoreFault.TheVariants as store
-use Rattle.desk.specs.Fit.{IsFit}
 use Rattle.desk.specs.Outcome.{Fine, OutOfMemory, Failed, Outcome, Cause, OfMemory, OfStore, OfSigner}
 use Rattle.desk.specs.Outcome.{Refusal, ByCause, faults_after, first_cause, all_fine}
 use Rattle.desk.specs.Command.{Setting, PendingValue, Finish, Answer, Refused}
-use Rattle.desk.specs.Texts.{token_with}
 use Rattle.desk.specs.Effects.{Keeping, in_seal, for_parts, refused_for, fault_by, unless, no_seal, finish_effect}
-use Rattle.desk.specs.MachineStep.{IsWaiting}
-use Rattle.desk.specs.Answers.{reply_as}
 use Rattle.desk.specs.CallContract.{StepsBy, IsBlamed, MayBeLeft, no_signer, committed, in_doubt}
 use Rattle.desk.specs.Calls.{refused, why_of, store_cause, signer_cause}
-use Rattle.desk.specs.auxiliary.Wholes.{joined, token_or, ending, added, ended, answer_by, MayStay, WasMet, Ends, IsOfFinish}
-use Rattle.desk.specs.declared.reply.Reply.{Reply}
+use Rattle.desk.specs.auxiliary.Wholes.{joined, token_or, ending, added, ended, answer_by, MayStay, WasMet, Ends}
+use Rattle.desk.specs.auxiliary.Wholes.{IsOfFinish}
 use Rattle.desk.specs.declared.refusal.StampRefusal.{StampRefusal}
+use Rattle.desk.specs.{Fit.IsFit, Texts.token_with, MachineStep.IsWaiting, Answers.reply_as, declared.reply.Reply.Reply}
 use Rattle.desk.specs.declared.refusal.StampRefusal.TheVariants as refusal
-use Rattle.desk.proofs.stamps.Committed.{counted_as}
 use Rattle.desk.proofs.calls.Fits.{by_storage, is_refused}
-use Rattle.desk.proofs.stamps.Judgement.{same_cause}
-use Rattle.desk.proofs.stamps.Beginnings.{tells_parts}
 use Rattle.desk.proofs.stamps.Stamps.{tells_opened, tells_blamed, met_all}
+use Rattle.desk.proofs.{stamps.Committed.counted_as, stamps.Judgement.same_cause, stamps.Beginnings.tells_parts}
 
 -- what waits may be sealed
 pub waiting_fits : (p : PendingValue) (b : History) → IsWaiting p b → FitsSealed p.serial b

@@ -3,31 +3,22 @@ use Rattle.std.proofs.Common.{◌≡◌, ℕ, ◌<◌, ◌≤◌, ◌⊎◌, ℤ
 use Rattle.std.proofs.Common.{◌∙◌, subst, inl, inr, arith}
 use Rattle.std.specs.Prelude.{option_map}
 use Rattle.policy.specs.Record.{AccountValue, PolicyValue}
-use Rattle.tsp.specs.Request.{RequestValue, Spells}
-use Rattle.tsp.specs.Rejection.{number_of}
-use Rattle.tsp.specs.declared.fault.TspFault.{TspFault}
 use Rattle.tsp.specs.declared.fault.TspFault.TheVariants.{Form, TooLong}
-use Rattle.tsp.specs.Rules.{IsSpelled, HoldsOfOctets, IsFirstFailing}
 use Rattle.tsp.specs.auxiliary.RulesOfOctets.{SpellsOnly, to_octets, first_of_octets}
-use Rattle.tsp.specs.declared.rule.Rule.{Rule}
 use Rattle.tsp.specs.declared.rule.Rule.TheVariants.{Spelling, Version, Account, Algorithm, HashLength, Policy}
 use Rattle.tsp.specs.declared.rule.Rule.TheVariants.{PolicyAlgorithm, Extensions, Certificate, Clock, Quota, System}
-use Rattle.decide.specs.Clock.{IsGoodAt, now_at}
-use Rattle.decide.specs.Rules.{Holds, HoldsOf}
-use Rattle.decide.specs.Verdict.{IsJudged}
+use Rattle.tsp.specs.{Request.RequestValue, Request.Spells, Rejection.number_of, declared.fault.TspFault.TspFault}
+use Rattle.tsp.specs.{Rules.IsSpelled, Rules.HoldsOfOctets, Rules.IsFirstFailing, declared.rule.Rule.Rule}
 use Rattle.decide.specs.declared.facts.Calibration.{Calibration}
-use Rattle.decide.specs.declared.facts.Facts.{Facts}
-use Rattle.decide.specs.declared.facts.ClockFacts.{ClockFacts}
+use Rattle.decide.specs.{Clock.IsGoodAt, Clock.now_at, Rules.Holds, Rules.HoldsOf, Verdict.IsJudged}
+use Rattle.decide.specs.{declared.facts.Facts.Facts, declared.facts.ClockFacts.ClockFacts}
 use Rattle.book.specs.History.{History, CalibrationValue, latest_calibration, count_of_day, day_of}
-use Rattle.book.specs.declared.standing.Standing.{Ghosts}
-use Rattle.book.specs.Fault.{count_after, IsOfStorage}
-use Rattle.book.specs.Stands.{OnlyLooks}
 use Rattle.book.specs.declared.fault.StoreFault.{StoreFault}
+use Rattle.book.specs.{declared.standing.Standing.Ghosts, Fault.count_after, Fault.IsOfStorage, Stands.OnlyLooks}
 use Rattle.book.specs.declared.fault.StoreFault.TheVariants as store
-use Rattle.desk.specs.Calls.{call_of, store_cause, count_for}
 use Rattle.desk.specs.Facts.{calibration_of, now_in, gen_time_of, gen_time_in, count_in, clock_of, facts_of}
-use Rattle.desk.specs.Findings.{HoldsUnasked, HoldsAt, IsAnsweredFor}
-use Rattle.desk.specs.Outcome.{cause_of, counted, all_fine}
+use Rattle.desk.specs.{Calls.call_of, Calls.store_cause, Calls.count_for, Findings.HoldsUnasked, Findings.HoldsAt}
+use Rattle.desk.specs.{Findings.IsAnsweredFor, Outcome.cause_of, Outcome.counted, Outcome.all_fine}
 
 -- the count after a refusal is the outcome's
 pub same_count : (f : StoreFault) (n : ℕ) → count_after f n ≡ counted (call_of f) n

@@ -1,20 +1,12 @@
 -- What a stamp's reply says, from the step that it is.
 use Rattle.std.proofs.Common.{◌≡◌, ℕ, ℤ, List, Option, Some, Result, sym, ◌∙◌, subst, inl, inr}
-use Rattle.book.specs.declared.standing.Standing.{Ghosts}
+use Rattle.book.specs.{declared.standing.Standing.Ghosts, History.History, Stands.Stands}
 use Rattle.policy.specs.Record.{AccountValue}
-use Rattle.tsp.specs.Granted.{granted_octets}
-use Rattle.tsp.specs.declared.rule.Rule.{Rule}
-use Rattle.cms.specs.SignedData.{attribute_text, token}
-use Rattle.cms.specs.declared.signer.SignerFault.{SignerFault}
-use Rattle.book.specs.History.{History}
-use Rattle.book.specs.Stands.{Stands}
-use Rattle.desk.specs.Outcome.{Outcome}
+use Rattle.tsp.specs.{Granted.granted_octets, declared.rule.Rule.Rule}
+use Rattle.cms.specs.{SignedData.attribute_text, SignedData.token, declared.signer.SignerFault.SignerFault}
 use Rattle.desk.specs.Command.{Setting, Stamp, Answer, Stamped, Rejected}
-use Rattle.desk.specs.Texts.{tst_of}
-use Rattle.desk.specs.MachineStep.{Moves}
-use Rattle.desk.specs.Laws.{IsRejection}
-use Rattle.desk.specs.Replies.{IsGranted, IsRejected}
-use Rattle.desk.specs.CallContract.{DeskValue, IsStep, with_signer}
+use Rattle.desk.specs.{Outcome.Outcome, Texts.tst_of, MachineStep.Moves, Laws.IsRejection, Replies.IsGranted}
+use Rattle.desk.specs.{Replies.IsRejected, CallContract.DeskValue, CallContract.IsStep, CallContract.with_signer}
 use Rattle.desk.proofs.journeys.Headline.{granted_asking, rejected_is}
 
 -- a granted reply

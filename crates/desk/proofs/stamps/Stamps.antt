@@ -2,37 +2,29 @@
 use Rattle.std.proofs.Common.{◌≡◌, ℕ, ◌<◌, List, [], ◌∷◌, ◌++◌, Option, Some, None, Result, Ok, Err, refl, sym}
 use Rattle.std.proofs.Common.{◌∙◌, ap, subst, inl, inr, arith, append_assoc}
 use Rattle.std.specs.Prelude.{IfErr, OnOk}
-use Rattle.book.specs.declared.standing.Standing.{Ghosts}
+use Rattle.book.specs.History.{Entry, Reserved, History, ReservationValue, greatest_serial}
+use Rattle.book.specs.{declared.standing.Standing.Ghosts, Sound.Along, Sound.Fits, Stands.Stands}
 use Rattle.tsp.specs.declared.rule.Rule.{Rule}
 use Rattle.cms.specs.declared.signer.SignerFault.{SignerFault}
 use Rattle.cms.specs.declared.signer.SignerFault.TheVariants as signer
-use Rattle.book.specs.History.{Entry, Reserved, History, ReservationValue, greatest_serial}
-use Rattle.book.specs.Sound.{Along, Fits}
-use Rattle.book.specs.Stands.{Stands}
-use Rattle.desk.specs.Batches.{Question, stamp_for}
-use Rattle.desk.specs.Answers.{ended_as}
 use Rattle.desk.specs.auxiliary.Beginnings.{IsSettled, IsAwaited, Reserves, Begins}
-use Rattle.desk.specs.Calls.{why_of, refused}
-use Rattle.desk.specs.auxiliary.Kept.{kept_as}
 use Rattle.desk.specs.Outcome.{Call, Fine, OutOfMemory, Failed, Outcome, Cause, OfMemory, OfStore, OfSigner, counted}
 use Rattle.desk.specs.Outcome.{Refusal, ByRule, ByCause, all_fine}
 use Rattle.desk.specs.Findings.{StampPlan, Finding, Fails, Allowed, Finds}
 use Rattle.desk.specs.Command.{Setting, PendingValue, Command, Begin, Answer}
-use Rattle.desk.specs.Texts.{pending_of, token_with}
 use Rattle.desk.specs.Effects.{Purpose, refused_for, only, fault_of, no_seal, next_reservation, sealed_or_void}
 use Rattle.desk.specs.Effects.{signed_or_void, stamping_of, purpose_effect, purpose_found, for_reply, name_of}
-use Rattle.desk.specs.MachineStep.{HasEffect, IsMet}
-use Rattle.desk.specs.Fit.{IsFit, IsUncounted}
 use Rattle.desk.specs.CallContract.{StepsWhere, IsBlamed, IsBlamedFor, IsExcused, IsSpentIn, IsOpened, MayBeLeft}
-use Rattle.desk.specs.CallContract.{with_signer, in_doubt}
-use Rattle.desk.specs.auxiliary.Wholes.{joined, token_or, ending, added, ended, answer_by, ended_by, stamped, MayStay, WasMet}
+use Rattle.desk.specs.auxiliary.Wholes.{joined, token_or, ending, added, ended, answer_by, ended_by, stamped, MayStay}
+use Rattle.desk.specs.auxiliary.Wholes.{WasMet}
 use Rattle.desk.specs.auxiliary.Wholes.{Completes, CompletesBegun}
-use Rattle.desk.specs.declared.refusal.StampRefusal.{StampRefusal}
-use Rattle.desk.specs.declared.unsigned_token.Written.{Written}
+use Rattle.desk.specs.{Batches.Question, Batches.stamp_for, Answers.ended_as, Calls.why_of, Calls.refused}
+use Rattle.desk.specs.{auxiliary.Kept.kept_as, Texts.pending_of, Texts.token_with, MachineStep.HasEffect}
+use Rattle.desk.specs.{MachineStep.IsMet, Fit.IsFit, Fit.IsUncounted, CallContract.with_signer, CallContract.in_doubt}
+use Rattle.desk.specs.{declared.refusal.StampRefusal.StampRefusal, declared.unsigned_token.Written.Written}
 use Rattle.desk.proofs.stamps.BatchJudgement.{begin_calls, left_number}
 use Rattle.desk.proofs.stamps.Beginnings.{Tells, BeginsWith, unanswered_found, decided, refusal_blamed}
-use Rattle.desk.proofs.calls.Fits.{none_failed}
-use Rattle.desk.proofs.journeys.Views.{fits_seal}
+use Rattle.desk.proofs.{calls.Fits.none_failed, journeys.Views.fits_seal}
 
 sealed_or : (u : Purpose) (s : Setting) (plan : StampPlan) (r : ReservationValue) (token : List ℕ) (why : Option Cause)
     → ended_by u (pending_of s plan r) (Reserved r ∷ []) (token_or token why)

@@ -1,25 +1,17 @@
 -- A stamp up to its reservation, whatever it is made for, by itself or together with others.
 use Rattle.std.specs.Prelude.{◌≡◌, ◌⊎◌, ℕ, ◌+◌, ◌<◌, ◌≤◌, List, [], ◌∷◌, Option, Some, None, Result, Ok, Err}
 use Rattle.gentime.specs.GenTime.{last_moment}
-use Rattle.book.specs.Entries.{Appends}
-use Rattle.book.specs.Fault.{IsOfStorage}
 use Rattle.book.specs.History.{Reserved, History, ReservationValue, greatest_serial}
-use Rattle.book.specs.Sound.{greatest_number}
-use Rattle.book.specs.Stands.{Stands}
-use Rattle.book.specs.declared.fault.StoreFault.{StoreFault}
-use Rattle.book.specs.declared.standing.Standing.{Ghosts}
-use Rattle.desk.specs.Batches.{Question}
-use Rattle.desk.specs.Calls.{why_of, refused, IsOfLooks}
-use Rattle.desk.specs.Command.{Setting, PendingValue, Begin}
+use Rattle.book.specs.{Entries.Appends, Fault.IsOfStorage, Sound.greatest_number, Stands.Stands}
+use Rattle.book.specs.{declared.fault.StoreFault.StoreFault, declared.standing.Standing.Ghosts}
 use Rattle.desk.specs.Effects.{name_of, next_reservation, no_number}
 use Rattle.desk.specs.Findings.{StampPlan, Finding, Fails, Unanswered, Allowed, Finds}
-use Rattle.desk.specs.Fit.{IsFit}
 use Rattle.desk.specs.Outcome.{Outcome, Cause, Refusal, ByRule, ByCause, all_fine, faults_after}
-use Rattle.desk.specs.Texts.{reservation_of, pending_of}
 use Rattle.desk.specs.WaitingStamps.{waiting_view, pending_in, HasText}
-use Rattle.desk.specs.declared.refusal.StampRefusal.{StampRefusal}
+use Rattle.desk.specs.{Batches.Question, Calls.why_of, Calls.refused, Calls.IsOfLooks, Command.Setting}
+use Rattle.desk.specs.{Command.PendingValue, Command.Begin, Fit.IsFit, Texts.reservation_of, Texts.pending_of}
+use Rattle.desk.specs.{declared.refusal.StampRefusal.StampRefusal, declared.waiting_stamp.WaitingStamp.WaitingStamp}
 use Rattle.desk.specs.declared.refusal.StampRefusal.TheVariants as refusal
-use Rattle.desk.specs.declared.waiting_stamp.Waiting.{Waiting}
 
 -- the call that had no answer, by what was found and why there is no serial number
 abbrev pub unanswered_by : Finding → Option Cause → Option Cause
@@ -46,7 +38,7 @@ pub record IsAwaited (s : Setting) (a : Question) (b : History) (r : Reservation
   pub pending : p ≡ pending_of s plan r
 
 -- What is written for a plan, behind this serial number, or why it isn't.
-pub record WaitsFor (s : Setting) (account : List ℕ) (plan : StampPlan) (octets : List ℕ) (last : ℕ) (w : Waiting)
+pub record WaitsFor (s : Setting) (account : List ℕ) (plan : StampPlan) (octets : List ℕ) (last : ℕ) (w : WaitingStamp)
     : Type 0 where
   pub left : last < greatest_number
   pub moment : plan.gen_time ≤ last_moment
@@ -67,7 +59,7 @@ abbrev pub IsOfBeginning : StampRefusal → Type 0
 IsOfBeginning r = IsOfJudging r ⊎ ((f : StoreFault) × (r ≡ refusal.Adding f) × IsOfStorage f)
 
 -- what waits is reserved, or the commit is refused
-abbrev pub IsReserved : {B : Type 0} → Ghosts B → Setting → Result Waiting StampRefusal
+abbrev pub IsReserved : {B : Type 0} → Ghosts B → Setting → Result WaitingStamp StampRefusal
     → Result PendingValue StampRefusal → B → B → Type 0
 IsReserved g s (Err r) result old new = (result ≡ Err r) × (new ≡ old)
 IsReserved g s (Ok w) (Ok p) old new =

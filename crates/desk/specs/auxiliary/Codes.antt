@@ -4,8 +4,7 @@ use Rattle.std.specs.Coded.{Coded, code_by, coded×, coded_ℕ, coded_bool, code
 use Rattle.policy.specs.Record.{AlgorithmValue, ExtensionValue, TsaPolicyValue, AccountValue, GroupValue}
 use Rattle.policy.specs.Record.{CounterValue, PolicyValue}
 use Rattle.cms.specs.Identity.{IdentityValue}
-use Rattle.desk.specs.CallContract.{DeskValue}
-use Rattle.desk.specs.Command.{InForce, Setting}
+use Rattle.desk.specs.{CallContract.DeskValue, Command.InForce, Command.Setting}
 
 abbrev octets : Coded (List ℕ)
 octets = coded_list coded_ℕ

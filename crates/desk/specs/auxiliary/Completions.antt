@@ -3,19 +3,12 @@
 use Rattle.std.specs.Prelude.{◌≡◌, ℕ, ◌<◌, List, [], ◌∷◌, ◌++◌, map, Option, Some, None, Result, Ok, Err}
 use Rattle.std.specs.List.{AllByRecursion}
 use Rattle.tsp.specs.Granted.{granted_octets}
-use Rattle.cms.specs.SignedData.{attribute_text}
-use Rattle.cms.specs.declared.signer.SignerFault.{SignerFault}
+use Rattle.cms.specs.{SignedData.attribute_text, declared.signer.SignerFault.SignerFault}
 use Rattle.book.specs.History.{History}
-use Rattle.desk.specs.Batches.{SealValue, seals, all_sealed}
-use Rattle.desk.specs.Command.{PendingValue, Answer}
-use Rattle.desk.specs.Effects.{Effect, for_reply}
-use Rattle.desk.specs.Fit.{IsUncounted}
-use Rattle.desk.specs.MachineStep.{IsWaiting}
 use Rattle.desk.specs.Outcome.{Call, Fine, Outcome, all_fine}
-use Rattle.desk.specs.Texts.{token_with}
-use Rattle.desk.specs.auxiliary.Wholes.{stamped}
-use Rattle.desk.specs.declared.completion.Seal.{Seal}
-use Rattle.desk.specs.declared.unsigned_token.Written.{Written}
+use Rattle.desk.specs.{Batches.SealValue, Batches.seals, Batches.all_sealed, Command.PendingValue, Command.Answer}
+use Rattle.desk.specs.{Effects.Effect, Effects.for_reply, Fit.IsUncounted, MachineStep.IsWaiting, Texts.token_with}
+use Rattle.desk.specs.{auxiliary.Wholes.stamped, declared.completion.Seal.Seal, declared.unsigned_token.Written.Written}
 
 -- the texts that are signed
 abbrev pub texts_of : List PendingValue → List (List ℕ)

@@ -3,23 +3,18 @@
 use Rattle.std.specs.Prelude.{◌≡◌, ℕ, ◌≤◌, List, [], map, length, Option, Result, Vec, vec_capacity}
 use Rattle.tsp.specs.declared.rule.Rule.{Rule}
 use Rattle.cms.specs.declared.signer.SignerFault.{SignerFault}
-use Rattle.book.specs.declared.standing.Standing.{Ghosts}
-use Rattle.book.specs.History.{Reserved}
-use Rattle.desk.specs.Batches.{Question, SealValue, seal_entry}
-use Rattle.desk.specs.Command.{Setting, Answer}
-use Rattle.desk.specs.Commits.{IsCommitted, if_accepted}
-use Rattle.desk.specs.auxiliary.Completions.{AreWritten}
-use Rattle.desk.specs.Outcome.{Call, Fine}
-use Rattle.desk.specs.auxiliary.Verdicts.{JudgesEach, merged}
-use Rattle.desk.specs.WaitingStamps.{waiting_view, pendings_in}
-use Rattle.desk.specs.declared.pending_batch.PendingBatch.{PendingBatch}
-use Rattle.desk.specs.declared.waiting_stamp.Waiting.{Waiting}
+use Rattle.book.specs.{declared.standing.Standing.Ghosts, History.Reserved}
+use Rattle.desk.specs.{auxiliary.Verdicts.JudgesEach, auxiliary.Verdicts.merged, Batches.Question, Batches.SealValue}
+use Rattle.desk.specs.{Batches.seal_entry, Command.Setting, Command.Answer, Commits.IsCommitted, Commits.if_accepted}
+use Rattle.desk.specs.{auxiliary.Completions.AreWritten, Outcome.Call, Outcome.Fine, WaitingStamps.waiting_view}
+use Rattle.desk.specs.{WaitingStamps.pendings_in, declared.pending_batch.PendingBatch.PendingBatch}
+use Rattle.desk.specs.declared.waiting_stamp.WaitingStamp.{WaitingStamp}
 
 -- An earlier try to reserve all of them: there was none, or its commit was refused, and none waits now.
-pub data IsTried {B : Type 0} (g : Ghosts B) (s : Setting) (asked : List Question) (ws : List Waiting) (old new : B)
-    : Type 0 where
+pub data IsTried {B : Type 0} (g : Ghosts B) (s : Setting) (asked : List Question) (ws : List WaitingStamp)
+    (old new : B) : Type 0 where
   at_once : new ≡ old → IsTried g s asked ws old new
-  anew : (rules : List (Option Rule)) (tried : List Waiting) (reserving : Call) (judged : B)
+  anew : (rules : List (Option Rule)) (tried : List WaitingStamp) (reserving : Call) (judged : B)
       → JudgesEach g s asked rules tried old judged
       → IsCommitted g (map Reserved (map waiting_view tried)) judged new reserving → (reserving ≡ Fine → ⊥) → ws ≡ []
       → IsTried g s asked ws old new
@@ -27,7 +22,7 @@ pub data IsTried {B : Type 0} (g : Ghosts B) (s : Setting) (asked : List Questio
 -- Stamps are begun together: a rule for each that is rejected, and what waits of the others, reserved in one commit.
 -- Each is judged by the history with the reservations of those before it.
 pub record AreBegun {B : Type 0} (g : Ghosts B) (s : Setting) (asked : List Question) (rules : List (Option Rule))
-    (ws : List Waiting) (old new : B) : Type 0 where
+    (ws : List WaitingStamp) (old new : B) : Type 0 where
   pub begun : B
   pub tried : IsTried g s asked ws old begun
   pub judged : B
@@ -35,7 +30,7 @@ pub record AreBegun {B : Type 0} (g : Ghosts B) (s : Setting) (asked : List Ques
   pub reserved : IsCommitted g (map Reserved (map waiting_view ws)) judged new Fine
 
 -- They are finished together: the tokens of all that were signed are sealed, in one commit, and each is answered.
-pub record AreFinished {B : Type 0} (g : Ghosts B) (s : Setting) (rules : List (Option Rule)) (ws : List Waiting)
+pub record AreFinished {B : Type 0} (g : Ghosts B) (s : Setting) (rules : List (Option Rule)) (ws : List WaitingStamp)
     (signed : List (Result (List ℕ) SignerFault)) (answers : List Answer) (old new : B) : Type 0 where
   pub seals : List SealValue
   pub replies : List Answer

@@ -1,10 +1,8 @@
 -- In what a token is kept, and what is answered then.
 use Rattle.policy.specs.View.{account_view}
-use Rattle.desk.specs.Command.{Answer}
-use Rattle.desk.specs.Effects.{Keeping, in_seal, in_deposit}
-use Rattle.desk.specs.declared.keeping.Keeping.{Keeping as Kept}
+use Rattle.desk.specs.{Command.Answer, Effects.Keeping, Effects.in_seal, Effects.in_deposit}
+use Rattle.desk.specs.{declared.keeping.Keeping.Keeping as Kept, declared.unsigned_token.Written.Written}
 use Rattle.desk.specs.declared.keeping.Keeping.TheVariants as kept
-use Rattle.desk.specs.declared.unsigned_token.Written.{Written}
 
 abbrev pub keeping_view : Kept → Keeping
 keeping_view kept.Seal = in_seal

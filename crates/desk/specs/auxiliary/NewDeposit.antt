@@ -4,12 +4,9 @@ use Rattle.std.specs.Str.{bytes_eq}
 use Rattle.der.specs.Node.{encoding}
 use Rattle.policy.specs.Record.{AccountValue}
 use Rattle.tsp.specs.Request.{RequestValue, time_stamp_req, unstated}
-use Rattle.book.specs.History.{History, deposit_under}
-use Rattle.book.specs.Rows.{DepositRow}
-use Rattle.desk.specs.Batches.{Question}
-use Rattle.desk.specs.Fault.{IsLate}
+use Rattle.book.specs.{History.History, History.deposit_under, Rows.DepositRow}
 use Rattle.desk.specs.Outcome.{Refusal, ByRule, ByCause}
-use Rattle.desk.specs.declared.new_deposit.Known.{Known}
+use Rattle.desk.specs.{Batches.Question, Fault.IsLate, declared.new_deposit.Known.Known}
 use Rattle.desk.specs.declared.new_deposit.Known.TheVariants as known
 
 -- what stands under a reference, as the octets are told from others

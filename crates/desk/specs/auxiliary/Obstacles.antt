@@ -2,21 +2,13 @@
 use Rattle.std.specs.Prelude.{◌≡◌, ◌⊎◌, ℕ, true, false, List, [], Option, Some, None, option_and_then, Result, Ok, Err}
 use Rattle.std.specs.Str.{bytes_eq}
 use Rattle.policy.specs.Record.{PolicyValue}
-use Rattle.book.specs.Fault.{IsOfStorage}
-use Rattle.book.specs.Rows.{DepositRow, StampRow}
-use Rattle.book.specs.History.{History}
-use Rattle.book.specs.Readers.{Reader, Viewer}
-use Rattle.book.specs.Rights.{seen_by}
-use Rattle.book.specs.declared.fault.StoreFault.{StoreFault}
+use Rattle.book.specs.{Fault.IsOfStorage, Rows.DepositRow, Rows.StampRow, History.History, Readers.Reader}
+use Rattle.book.specs.{Readers.Viewer, Rights.seen_by, declared.fault.StoreFault.StoreFault}
 use Rattle.desk.specs.Outcome.{Outcome, OutOfMemory, all_fine}
-use Rattle.desk.specs.Command.{Answer, Refused}
-use Rattle.desk.specs.Effects.{fault_of, objection}
-use Rattle.desk.specs.Calls.{call_of, store_cause}
-use Rattle.desk.specs.Fault.{NamesAccount, NamesGroup}
-use Rattle.desk.specs.Viewers.{viewer_in}
-use Rattle.desk.specs.declared.fault.Fault.{Fault}
+use Rattle.desk.specs.{Command.Answer, Command.Refused, Effects.fault_of, Effects.objection, Calls.call_of}
+use Rattle.desk.specs.{Calls.store_cause, Fault.NamesAccount, Fault.NamesGroup, Viewers.viewer_in}
+use Rattle.desk.specs.{declared.fault.Fault.Fault, declared.obstacle.Obstacle.Obstacle}
 use Rattle.desk.specs.declared.fault.Fault.TheVariants as fault
-use Rattle.desk.specs.declared.obstacle.Obstacle.{Obstacle}
 use Rattle.desk.specs.declared.obstacle.Obstacle.TheVariants as obstacle
 
 abbrev pub fault_with : Obstacle → Fault

@@ -2,32 +2,24 @@
 -- the proofs.
 use Rattle.std.specs.Prelude.{◌≡◌, List, [], ◌∷◌, ◌++◌, map, Option, Some, None, Result, Ok, Err, IfErr}
 use Rattle.std.specs.List.{AllByRecursion}
-use Rattle.tsp.specs.Rules.{IsFirstFailing}
-use Rattle.tsp.specs.declared.rule.Rule.{Rule}
-use Rattle.tsp.specs.declared.rule.Rule.TheVariants.{System}
-use Rattle.book.specs.declared.standing.Standing.{Ghosts}
+use Rattle.tsp.specs.{Rules.IsFirstFailing, declared.rule.Rule.Rule, declared.rule.Rule.TheVariants.System}
 use Rattle.book.specs.History.{Reserved, History}
-use Rattle.book.specs.Sound.{IsSound}
-use Rattle.book.specs.Stands.{Stands, OnlyLooks}
-use Rattle.desk.specs.Effects.{name_of, rule_by}
+use Rattle.book.specs.{declared.standing.Standing.Ghosts, Sound.IsSound, Stands.Stands, Stands.OnlyLooks}
 use Rattle.desk.specs.Outcome.{Call, Fine, OutOfMemory, Failed, Outcome, Refusal, all_fine, faults_after}
-use Rattle.desk.specs.Findings.{HoldsUnasked}
-use Rattle.desk.specs.auxiliary.Beginnings.{IsSettled, IsAwaited, IsOfJudging}
-use Rattle.desk.specs.Calls.{why_of, refused, outcome_of}
-use Rattle.desk.specs.Command.{Setting, Answer, Begin, Rejected}
-use Rattle.desk.specs.Batches.{Question, faults_along}
-use Rattle.desk.specs.Fit.{IsFit}
-use Rattle.desk.specs.WaitingStamps.{waiting_view, with_waiting, pending_in, HasText}
-use Rattle.desk.specs.declared.waiting_stamp.Waiting.{Waiting}
-use Rattle.desk.specs.declared.refusal.StampRefusal.{StampRefusal}
+use Rattle.desk.specs.{auxiliary.Beginnings.IsSettled, auxiliary.Beginnings.IsAwaited, auxiliary.Beginnings.IsOfJudging}
+use Rattle.desk.specs.{Calls.why_of, Calls.refused, Calls.outcome_of, Command.Setting, Command.Answer, Command.Begin}
+use Rattle.desk.specs.{Command.Rejected, WaitingStamps.waiting_view, WaitingStamps.with_waiting}
+use Rattle.desk.specs.{WaitingStamps.pending_in, WaitingStamps.HasText, Effects.name_of, Effects.rule_by}
+use Rattle.desk.specs.{Findings.HoldsUnasked, Batches.Question, Batches.faults_along, Fit.IsFit}
+use Rattle.desk.specs.{declared.waiting_stamp.WaitingStamp.WaitingStamp, declared.refusal.StampRefusal.StampRefusal}
 use Rattle.desk.specs.declared.refusal.StampRefusal.TheVariants as refusal
 
 -- How a stamp is judged: nothing is reserved for it, where this was met; or it waits for its signature.
 pub data Verdict : Type 0 where
   Settled : Refusal → Outcome → Verdict
-  Waits : Waiting → Verdict
+  Waits : WaitingStamp → Verdict
 
-abbrev pub verdict_of : Result Waiting StampRefusal → Verdict
+abbrev pub verdict_of : Result WaitingStamp StampRefusal → Verdict
 verdict_of (Ok w) = Waits w
 verdict_of (Err r) = Settled (why_of r) (refused r)
 
@@ -54,11 +46,11 @@ abbrev pub all_looks : List JudgedStamp → List Outcome
 all_looks js = map (λ j. looks_of j.verdict) js
 
 -- what waits, the first of the list first
-abbrev pub waiting_before : Verdict → List Waiting → List Waiting
+abbrev pub waiting_before : Verdict → List WaitingStamp → List WaitingStamp
 waiting_before (Settled why o) ws = ws
 waiting_before (Waits w) ws = w ∷ ws
 
-abbrev pub waits_of : List JudgedStamp → List Waiting
+abbrev pub waits_of : List JudgedStamp → List WaitingStamp
 waits_of [] = []
 waits_of (j ∷ js) = waiting_before j.verdict (waits_of js)
 
@@ -99,7 +91,7 @@ pub record IsJudgedRightly (s : Setting) (j : JudgedStamp) : Type 0 where
 -- Stamps are judged: a rule for each that is rejected, and what waits of the others, by itself a sound history. Nothing
 -- is changed.
 pub record JudgesEach {B : Type 0} (g : Ghosts B) (s : Setting) (asked : List Question) (rules : List (Option Rule))
-    (ws : List Waiting) (old new : B) : Type 0 where
+    (ws : List WaitingStamp) (old new : B) : Type 0 where
   pub stamps : List JudgedStamp
   pub questions : map (λ j. j.question) stamps ≡ asked
   pub rules_are : rules_of stamps ≡ rules
@@ -111,7 +103,7 @@ pub record JudgesEach {B : Type 0} (g : Ghosts B) (s : Setting) (asked : List Qu
   pub judged : g.honest new → (b : History) → Stands g b old → AreJudged s stamps b
 
 -- one of them
-pub record JudgesOne {B : Type 0} (g : Ghosts B) (s : Setting) (a : Question) (ws : List Waiting)
+pub record JudgesOne {B : Type 0} (g : Ghosts B) (s : Setting) (a : Question) (ws : List WaitingStamp)
     (verdict : Verdict) (old new : B) : Type 0 where
   pub rightly : IsJudgedRightly s (record { question = a; verdict = verdict })
   pub fit : IsSound (with_waiting ws []) → IsSound (reserved_for verdict (with_waiting ws []))
@@ -121,8 +113,8 @@ pub record JudgesOne {B : Type 0} (g : Ghosts B) (s : Setting) (a : Question) (w
       → IsJudgedAs s a verdict (with_waiting ws b)
 
 -- the same by what is answered of it
-pub record JudgesAs {B : Type 0} (g : Ghosts B) (s : Setting) (a : Question) (ws : List Waiting)
-    (judged : Result Waiting StampRefusal) (old new : B) : Type 0 where
+pub record JudgesAs {B : Type 0} (g : Ghosts B) (s : Setting) (a : Question) (ws : List WaitingStamp)
+    (judged : Result WaitingStamp StampRefusal) (old new : B) : Type 0 where
   pub judges : JudgesOne g s a ws (verdict_of judged) old new
   pub counted : g.fault_count new ≡ faults_after (outcome_of judged) (g.fault_count old)
   pub refusals : IfErr judged IsOfJudging
@@ -130,7 +122,7 @@ pub record JudgesAs {B : Type 0} (g : Ghosts B) (s : Setting) (a : Question) (ws
       → (judged ≡ Err (refusal.Fails rule)) × (new ≡ old)
 
 -- it is put behind those before it
-abbrev pub IsKept : Verdict → List (Option Rule) → List (Option Rule) → List Waiting → List Waiting → Type 0
+abbrev pub IsKept : Verdict → List (Option Rule) → List (Option Rule) → List WaitingStamp → List WaitingStamp → Type 0
 IsKept verdict rules rules' ws ws' =
     (rules' ≡ rules ++ (rule_of verdict ∷ [])) × (ws' ≡ ws ++ waiting_before verdict [])
 

@@ -1,24 +1,14 @@
 -- A stamp in its parts: what a beginning, a signature and an end met and did is what the whole stamp met and did.
 use Rattle.std.specs.Prelude.{◌≡◌, ◌⊎◌, ℕ, List, [], ◌∷◌, ◌++◌, Option, Some, None, Result, Ok, Err, OnOk, IfErr}
-use Rattle.book.specs.declared.standing.Standing.{Ghosts}
-use Rattle.cms.specs.SignedData.{attribute_text}
-use Rattle.cms.specs.declared.signer.SignerFault.{SignerFault}
+use Rattle.book.specs.{declared.standing.Standing.Ghosts, History.Entry, History.History, Sound.Fits, Stands.Stands}
+use Rattle.cms.specs.{SignedData.attribute_text, declared.signer.SignerFault.SignerFault}
 use Rattle.cms.specs.declared.signer.SignerFault.TheVariants as signer
-use Rattle.book.specs.History.{Entry, History}
-use Rattle.book.specs.Sound.{Fits}
-use Rattle.book.specs.Stands.{Stands}
 use Rattle.desk.specs.Outcome.{Fine, Failed, Outcome, Cause, OfMemory, OfStore, OfSigner, Refusal, ByCause, counted}
-use Rattle.desk.specs.Fit.{IsUncounted, IsUnfailed}
-use Rattle.desk.specs.Command.{PendingValue, Answer}
-use Rattle.desk.specs.Texts.{token_with}
 use Rattle.desk.specs.Effects.{Effect, Keeping, Purpose, refused_for, no_seal}
-use Rattle.desk.specs.Answers.{ended_as}
-use Rattle.desk.specs.CallContract.{SignerStep}
-use Rattle.desk.specs.auxiliary.Kept.{kept_as}
-use Rattle.desk.specs.Calls.{signer_cause}
-use Rattle.desk.specs.declared.refusal.StampRefusal.{StampRefusal}
+use Rattle.desk.specs.{Fit.IsUncounted, Fit.IsUnfailed, Command.PendingValue, Command.Answer, Texts.token_with}
+use Rattle.desk.specs.{Answers.ended_as, CallContract.SignerStep, auxiliary.Kept.kept_as, Calls.signer_cause}
+use Rattle.desk.specs.{declared.refusal.StampRefusal.StampRefusal, declared.unsigned_token.Written.Written}
 use Rattle.desk.specs.declared.refusal.StampRefusal.TheVariants as refusal
-use Rattle.desk.specs.declared.unsigned_token.Written.{Written}
 
 -- what the three parts met
 abbrev pub joined : Outcome → Result (List ℕ) SignerFault → Outcome → Outcome

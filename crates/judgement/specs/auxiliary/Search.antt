@@ -3,13 +3,9 @@ use Rattle.std.specs.Prelude.{◌≡◌, ◌≤◌, ◌<◌, ◌≤ℤ◌, ◌+�
 use Rattle.der.specs.ObjectIdentifier.{oid_content}
 use Rattle.gentime.specs.GenTime.{day_of}
 use Rattle.policy.specs.Record.{CounterValue}
-use Rattle.tsp.specs.Request.{RequestValue}
-use Rattle.tsp.specs.Tst.{TstValue}
-use Rattle.book.specs.History.{CalibrationValue, HoldValue}
-use Rattle.book.specs.Rows.{StampRow}
-use Rattle.decide.specs.Clock.{now_at, IsGood}
-use Rattle.decide.specs.Verdict.{PlanValue}
-use Rattle.decide.specs.declared.facts.ClockFacts.{ClockFacts}
+use Rattle.tsp.specs.{Request.RequestValue, Tst.TstValue}
+use Rattle.book.specs.{History.CalibrationValue, History.HoldValue, Rows.StampRow}
+use Rattle.decide.specs.{Clock.now_at, Clock.IsGood, Verdict.PlanValue, declared.facts.ClockFacts.ClockFacts}
 use Rattle.judgement.specs.Readings.{EvidenceValue, IsReadUnder, IsOfSome, IsClockUnder, calibration_of, is_held_by}
 
 -- ---- readings

@@ -1,8 +1,6 @@
 -- What the trait of signers asks of the signer that was reached. Proofs, no definitions.
 use Rattle.std.proofs.Common.{ℕ, List, [], ◌∷◌, ◌++◌, Result, refl, ap, ◌∙◌}
-use Rattle.cms.specs.KeyedHash.{SignsByHash}
-use Rattle.cms.specs.Signer.{SignsEach}
-use Rattle.cms.specs.declared.signer.SignerFault.{SignerFault}
+use Rattle.cms.specs.{KeyedHash.SignsByHash, Signer.SignsEach, declared.signer.SignerFault.SignerFault}
 use Rattle.operations.specs.AnySigner.{SignsAsAny, SendsAsAny, AwaitsAsAny}
 use Rattle.operations.specs.declared.signers.AnySigner.{AnySigner}
 use Rattle.operations.specs.declared.signers.AnySigner.TheVariants.{Keyed, Session, Reconnecting}

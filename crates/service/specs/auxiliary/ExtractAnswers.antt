@@ -1,18 +1,12 @@
 -- What the answers to auditors give: stepping stones of the proofs.
 use Rattle.std.specs.Prelude.{◌≡◌, ◌≢◌, ℕ, ℤ, List, length, Option}
-use Rattle.book.specs.declared.standing.Standing.{Ghosts}
+use Rattle.book.specs.{declared.standing.Standing.Ghosts, History.History, Stands.Stands}
 use Rattle.policy.specs.Record.{AccountValue, PolicyValue}
-use Rattle.book.specs.History.{History}
-use Rattle.book.specs.Stands.{Stands}
 use Rattle.audit.specs.Auditor.{IsAllowed, ComesWhere, IfUnasked}
-use Rattle.audit.specs.Extract.{extract_text}
-use Rattle.audit.specs.Fault.{count_after}
-use Rattle.audit.specs.declared.fault.ExtractFault.{ExtractFault}
 use Rattle.audit.specs.declared.fault.ExtractFault.TheVariants.{Write}
-use Rattle.service.specs.Answers.{extract_answer, refusal_answer}
-use Rattle.service.specs.Refusals.{refusal_of_extract}
-use Rattle.service.specs.Served.{Sends, SendsOctets, TellsExtractFailure}
-use Rattle.service.specs.declared.served.Served.{Served}
+use Rattle.audit.specs.{Extract.extract_text, Fault.count_after, declared.fault.ExtractFault.ExtractFault}
+use Rattle.service.specs.{Answers.extract_answer, Answers.refusal_answer, Refusals.refusal_of_extract, Served.Sends}
+use Rattle.service.specs.{Served.SendsOctets, Served.TellsExtractFailure, declared.served.Served.Served}
 
 -- what the writer tells of its failures where an extract is written that is found to have so many octets
 abbrev pub SendingFails : {B : Type 0} → Ghosts B → ℤ → B → B → (from to count : ℕ) → (before after : Option ℕ) → Served

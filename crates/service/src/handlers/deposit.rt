@@ -1,10 +1,7 @@
 //! `/deposits/{number}`, and what is below it: the octets of a deposit, its token, and who may see it.
 ghost use Rattle.std.specs.Prelude.{◌≡◌, Ok};
 ghost use Rattle.policy.specs.View.{account_view};
-ghost use Rattle.service.specs.Handlers.{Handles};
-ghost use Rattle.service.specs.Requests.{asked_of_deposit};
-ghost use Rattle.service.specs.Routes.{segment};
-ghost use Rattle.service.specs.Served.{TellsFailure};
+ghost use Rattle.service.specs.{Handlers.Handles, Requests.asked_of_deposit, Routes.segment, Served.TellsFailure};
 
 use crate::answer::Media;
 use crate::context::Context;

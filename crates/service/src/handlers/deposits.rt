@@ -2,9 +2,7 @@
 ghost use Rattle.std.specs.Prelude.{◌≡◌, Ok};
 ghost use Rattle.desk.specs.Command.{ListAll};
 ghost use Rattle.policy.specs.View.{account_view};
-ghost use Rattle.service.specs.Handlers.{Handles};
-ghost use Rattle.service.specs.Requests.{Step};
-ghost use Rattle.service.specs.Served.{TellsFailureOnceListed};
+ghost use Rattle.service.specs.{Handlers.Handles, Requests.Step, Served.TellsFailureOnceListed};
 
 use crate::answer::Media;
 use crate::context::Context;

@@ -1,9 +1,9 @@
 -- What the trait of signers asks of one whose session is opened anew. Proofs, no definitions.
 use Rattle.std.specs.Prelude.{◌≡◌, ℕ, List, [], Option, Result, refl}
 use Rattle.std.proofs.Common.{sym, subst, arith}
-use Rattle.cms.specs.Signer.{SignsEach}
-use Rattle.cms.specs.declared.signer.SignerFault.{SignerFault}
-use Rattle.sessions.specs.ReconnectingSigner.{ReconnectingState, SignsRenewed, SendsRenewed, Stands, AwaitsRenewed, nothing}
+use Rattle.cms.specs.{Signer.SignsEach, declared.signer.SignerFault.SignerFault}
+use Rattle.sessions.specs.ReconnectingSigner.{ReconnectingState, SignsRenewed, SendsRenewed, Stands, AwaitsRenewed}
+use Rattle.sessions.specs.ReconnectingSigner.{nothing}
 use Rattle.sessions.specs.ReconnectingSigner.{still, taken, sent, gone}
 
 pub sends_nothing : {S O : Type 0} (goes : S → List (List ℕ) → S → Type 0) (fresh : S → Type 0)

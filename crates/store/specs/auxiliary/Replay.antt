@@ -1,7 +1,6 @@
 -- The tables after each entry in turn: a stepping stone, no definition.
 use Rattle.std.specs.Prelude.{[], ◌∷◌}
-use Rattle.tables.specs.Changes.{applied}
-use Rattle.tables.specs.Tables.{Tables, no_rows}
+use Rattle.tables.specs.{Changes.applied, Tables.Tables, Tables.no_rows}
 use Rattle.book.specs.History.{History}
 
 abbrev pub replayed : History → Tables

@@ -1,24 +1,15 @@
 -- What the calls make of a look-up's answer: stepping stones, no definitions.
 use Rattle.std.specs.Prelude.{◌≡◌, ℕ, ◌<◌, ◌&&◌, min, nat_lt, nat_le, if◌then◌else◌, Bool, true, false}
 use Rattle.std.specs.Prelude.{List, [], ◌∷◌, length, map, get_or, IfSome, Option, Some, None, option_map}
-use Rattle.std.specs.Prelude.{option_and_then}
-use Rattle.std.specs.Prelude.{string_bytes}
-use Rattle.std.specs.Option.{unwrap_or}
-use Rattle.tables.specs.Found.{AreFoundAs}
+use Rattle.std.specs.{Prelude.option_and_then, Prelude.string_bytes, Option.unwrap_or}
 use Rattle.tables.specs.Queries.{label_of, label_view, is_owned_by}
-use Rattle.tables.specs.declared.rows.Label.{Label}
-use Rattle.tables.specs.declared.rows.LastStamp.{LastStamp}
-use Rattle.tables.specs.declared.rows.NumberedCalibration.{NumberedCalibration}
-use Rattle.tables.specs.declared.rows.Origin.{Origin}
-use Rattle.book.specs.declared.rows.Stamp.{Stamp}
+use Rattle.tables.specs.{Found.AreFoundAs, declared.rows.Label.Label, declared.rows.LastStamp.LastStamp}
+use Rattle.tables.specs.{declared.rows.NumberedCalibration.NumberedCalibration, declared.rows.Origin.Origin}
 use Rattle.book.specs.History.{CalibrationValue, ReservationValue, History, deposit_at, reservation_at}
 use Rattle.book.specs.Readers.{Reader, Account, Group, Viewer}
 use Rattle.book.specs.Rights.{ListedValue, listed_as, is_reader, is_visible}
-use Rattle.book.specs.Sound.{greatest_number}
-use Rattle.book.specs.Rows.{DepositRow}
-use Rattle.book.specs.declared.values.Last.{Last}
-use Rattle.store.specs.auxiliary.Replay.{replayed}
-use Rattle.store.specs.declared.labels.Owned.{Owned}
+use Rattle.book.specs.{declared.rows.Stamp.Stamp, Sound.greatest_number, Rows.DepositRow, declared.values.Last.Last}
+use Rattle.store.specs.{auxiliary.Replay.replayed, declared.labels.Owned.Owned}
 
 abbrev pub last_from : Option LastStamp → Last
 last_from None = record { serial = 0; gen_time = None }

@@ -1,9 +1,8 @@
 -- Making tables: each by its text, one after the other, in whatever schema there is. A version of the schema that has
 -- further tables is one more such list.
 use Rattle.std.specs.Prelude.{ℕ, List, [], ◌∷◌, ◌++◌, codes}
-use Rattle.tables.specs.Names.{Name, names}
+use Rattle.tables.specs.{Names.Name, Names.names, declared.migration.TheConstants.SET_VERSION}
 use Rattle.tables.specs.Names as name
-use Rattle.tables.specs.declared.migration.TheConstants.{SET_VERSION}
 
 -- the text that makes a table
 abbrev pub text_for : Name → List ℕ

@@ -1,11 +1,9 @@
 -- The cells that a look-up asks of a row: all but the bytes where it needs no bytes.
 use Rattle.std.specs.Prelude.{ℕ, pos, List, [], ◌∷◌}
-use Rattle.sqlite_value.specs.declared.value.Value.{Value}
 use Rattle.sqlite_value.specs.declared.value.Value.TheVariants.{Int, Text, Blob}
-use Rattle.sqlite_value.specs.Order.{Row, column}
-use Rattle.tables.specs.Layout.{token_cell}
-use Rattle.tables.specs.Queries.{LabelValue}
+use Rattle.sqlite_value.specs.{declared.value.Value.Value, Order.Row, Order.column}
 use Rattle.tables.specs.Tables.{StampRow, TallyRow, CalibrationRow, HoldRow, DepositRow, ReaderRow, InstalledRow}
+use Rattle.tables.specs.{Layout.token_cell, Queries.LabelValue}
 
 abbrev pub stamp_shown : StampRow → Row
 stamp_shown s =

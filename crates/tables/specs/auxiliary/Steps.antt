@@ -1,8 +1,7 @@
 -- The step of each statement, of which an entry may take several.
 use Rattle.std.specs.Prelude.{◌≡◌, false, ℕ, List, ◌∷◌, map, Result, OnOk, IfErr, IsTrue}
-use Rattle.sqlite.specs.Effect.{Database, IsDatabase}
 use Rattle.sqlite.specs.State.{State, HasCleanDisk, Survives, KeepsCommit}
-use Rattle.sqlite.specs.declared.error.Error.{Error}
+use Rattle.sqlite.specs.{Effect.Database, Effect.IsDatabase, declared.error.Error.Error}
 use Rattle.book.specs.Readers.{Reader}
 use Rattle.tables.specs.Versions.{tells_taken}
 use Rattle.tables.specs.Tables.{Tables, StampRow, raised_row, with_one_more, changed_right}

@@ -1,7 +1,6 @@
 -- What is told of a query that is prepared and not run.
 use Rattle.std.specs.Prelude.{◌≡◌, ◌↔◌, ℕ, Bool, List, IsTrue}
-use Rattle.sqlite.specs.Listing.{understood}
-use Rattle.sqlite.specs.State.{State}
+use Rattle.sqlite.specs.{Listing.understood, State.State}
 use Rattle.tables.specs.Versions.{IsUnderstood}
 
 -- the connection was open and nothing has changed, and this says whether the query is understood

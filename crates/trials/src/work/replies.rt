@@ -1,7 +1,6 @@
 //! Replies without store and signer.
 ghost use Rattle.std.specs.Prelude.{◌≤◌, length};
-ghost use Rattle.tsp.specs.Request.{Spells};
-ghost use Rattle.tsp.specs.View.{request_view};
+ghost use Rattle.tsp.specs.{Request.Spells, View.request_view};
 
 use crate::setting::Setting;
 use crate::work::setting::{REQUEST, setting_of};

@@ -1,6 +1,5 @@
-use Rattle.std.proofs.Common.{nat_lt, rules, tests}
 use Rattle.std.proofs.lemmas.Iterator.Adapters.{YieldsList-from_rev_slice}
-use Rattle.std.proofs.lemmas.Iterator.Search.{find_from_yields_List}
+use Rattle.std.proofs.{Common.nat_lt, Common.rules, Common.tests, lemmas.Iterator.Search.find_from_yields_List}
 use Rattle.book.specs.Values.{identity_view}
 use Rattle.audit.proofs.Checks.{last_before}
 use Rattle.audit.proofs.check.identity_at.Goals as goal

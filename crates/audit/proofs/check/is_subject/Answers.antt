@@ -1,7 +1,6 @@
 use Rattle.std.proofs.Common.{◌≡◌, rules, tests}
 use Rattle.std.specs.Prelude.{◌↔◌, IsTrue}
-use Rattle.der.specs.DataValueView.{value_view}
-use Rattle.der.specs.Node.{encoding}
+use Rattle.der.specs.{DataValueView.value_view, Node.encoding}
 use Rattle.audit.proofs.Checks.{tells_subject}
 use Rattle.audit.proofs.check.is_subject.Goals as goal
 

@@ -1,7 +1,6 @@
 use Rattle.std.proofs.Common.{Err, ap, arith, refl, rules, ◌≡◌, IfSome, subst, ◌∙◌}
 use Rattle.std.proofs.lemmas.Result.{err_from_is_err_and}
-use Rattle.audit.specs.auxiliary.Steps.{IsLine}
-use Rattle.audit.specs.Writes.{Writes}
+use Rattle.audit.specs.{auxiliary.Steps.IsLine, Writes.Writes}
 use Rattle.audit.proofs.Lines.{added, begun, cut_first, cut_later, next_left, some_header, some_line}
 use Rattle.audit.proofs.extracts.write_stamps.Goals as goal
 

@@ -1,6 +1,5 @@
 use Rattle.std.proofs.Common.{ℕ, ◌≤◌, List, length, drop, arith, sym, subst, ◌∙◌}
-use Rattle.std.proofs.KnownBytes.{Appends-trans}
-use Rattle.std.proofs.lemmas.List.{length-drop}
+use Rattle.std.proofs.{KnownBytes.Appends-trans, lemmas.List.length-drop}
 use Rattle.std.specs.Io.KnownBytes.{Appends}
 use lib.Seq.{take-add}
 use Rattle.audit.proofs.writes.write_octets.Goals as goal

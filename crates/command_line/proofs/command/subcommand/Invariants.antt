@@ -1,7 +1,6 @@
 use Rattle.std.proofs.Common.{◌≡◌, map, take}
 use Rattle.clap.specs.Words.{app_of, new_app}
-use Rattle.command_line.specs.Options.{with_rules}
-use Rattle.command_line.specs.auxiliary.Table.{rule_in}
+use Rattle.command_line.specs.{Options.with_rules, auxiliary.Table.rule_in}
 use Rattle.command_line.proofs.command.subcommand.Given as goal
 
 abbrev pub invariant-loop-option : goal.invariant-loop-option

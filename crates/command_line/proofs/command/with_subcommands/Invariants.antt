@@ -1,7 +1,6 @@
 use Rattle.std.proofs.Common.{◌≡◌, map, take}
 use Rattle.clap.specs.Words.{app_of}
-use Rattle.command_line.specs.Options.{with_subcommands}
-use Rattle.command_line.specs.auxiliary.Table.{app_in}
+use Rattle.command_line.specs.{Options.with_subcommands, auxiliary.Table.app_in}
 use Rattle.command_line.proofs.command.with_subcommands.Given as goal
 
 abbrev pub invariant-loop-row : goal.invariant-loop-row

@@ -1,7 +1,6 @@
 use Rattle.std.proofs.Common.{ℕ, ◌≤◌, List, arith, codes, refl}
 use Rattle.clap.specs.Words.{Row}
-use Rattle.command_line.specs.Words.{IsUnasked, StatesNumber}
-use Rattle.command_line.specs.declared.words.Word.TheVariants.{Serve}
+use Rattle.command_line.specs.{Words.IsUnasked, Words.StatesNumber, declared.words.Word.TheVariants.Serve}
 use Rattle.command_line.proofs.parse.serve_word.Goals as goal
 
 no_connections : (rows : List Row)

@@ -2,8 +2,7 @@ use Rattle.std.proofs.Common.{◌∙◌, ◌-◌, ◌<◌, [], ◌∷◌, length
 use Rattle.std.proofs.lemmas.List.{length-map, map-append}
 use Rattle.connections.specs.auxiliary.Gathering.{handed_view}
 use Rattle.connections.proofs.GatheringLemmas.{none_behind, one_behind, gathered_all, gathered_last, as_many}
-use Rattle.connections.proofs.GatheringLemmas.{cut_behind}
-use Rattle.connections.proofs.HeardLemmas.{on_err}
+use Rattle.connections.proofs.{GatheringLemmas.cut_behind, HeardLemmas.on_err}
 use Rattle.connections.proofs.gathering.gather_behind.Goals as goal
 
 pub gathering-init : goal.gathering-init

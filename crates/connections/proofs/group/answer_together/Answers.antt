@@ -1,5 +1,4 @@
-use Rattle.std.proofs.Common.{length, map, ap, arith}
-use Rattle.std.proofs.lemmas.List.{length-map}
+use Rattle.std.proofs.{Common.length, Common.map, Common.ap, Common.arith, lemmas.List.length-map}
 use Rattle.desk.specs.Answers.{reply_as}
 use Rattle.connections.specs.auxiliary.Gathering.{handed_view}
 use Rattle.connections.proofs.GroupLemmas.{as_many_asked, as_many_judged, together_answered}

@@ -31,7 +31,7 @@ loop-reply-preserved g c =
           let fits : SFits w64 one.reading = search rules in
           record {
             many = omega (arith, inv.many, w.in-Some.ensures.cases.1, ap length w.in-Some.ensures.cases.0);
-            wrote = rw (w.hearing-is, replies)
+            wrote = rw (w.source-is, replies)
                 (wrote_more _ _ _ _ _ _ _ inv.wrote
                 (record {
                   handed = handed_view one;

@@ -15,7 +15,7 @@ returns-in_err-left-clause-stopped g c =
       heard = c.args.count - c.answering.left;
       left = c.answering.left;
       counted = omega (arith, c.answering.invariant.within);
-      last = hall c.answering.hearing c.answering.clock c.answering.desk c.answering.signer;
+      last = hall c.answering.source c.answering.clock c.answering.desk c.answering.signer;
       before = c.answering.invariant.heard;
       dropped = c.in_err-left.ensures.dropped;
     })

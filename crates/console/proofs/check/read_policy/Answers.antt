@@ -1,5 +1,4 @@
-use Rattle.std.proofs.Common.{Err, ap}
-use Rattle.std.proofs.lemmas.Result.{err_from_is_err_and}
+use Rattle.std.proofs.{Common.Err, Common.ap, lemmas.Result.err_from_is_err_and}
 use Rattle.console.specs.Files.{text_not_read, text_read}
 use Rattle.console.proofs.check.read_policy.Goals as goal
 

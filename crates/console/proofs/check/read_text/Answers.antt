@@ -1,7 +1,6 @@
-use Rattle.std.proofs.Common.{◌≡◌, ◌∙◌, ℕ, ◌<◌, List, length, take, Option, None, Some, IfSome, ap, arith, inr, refl, subst, sym}
-use Rattle.std.proofs.lemmas.Bool.{false≢true}
-use Rattle.std.proofs.lemmas.List.{length-take, take_all}
-use Rattle.std.proofs.lemmas.Option.{IfSome_then}
+use Rattle.std.proofs.Common.{◌≡◌, ◌∙◌, ℕ, ◌<◌, List, length, take, Option, None, Some, IfSome, ap, arith, inr, refl}
+use Rattle.std.proofs.Common.{subst, sym}
+use Rattle.std.proofs.{lemmas.Bool.false≢true, lemmas.List.length-take, lemmas.List.take_all, lemmas.Option.IfSome_then}
 use Rattle.std.specs.Prelude.{IsUtf8}
 use Rattle.console.proofs.check.read_text.Goals as goal
 

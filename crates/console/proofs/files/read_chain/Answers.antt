@@ -1,5 +1,4 @@
-use Rattle.std.proofs.Common.{Err, refl, ap}
-use Rattle.std.proofs.lemmas.Result.{err_from_is_err_and}
+use Rattle.std.proofs.{Common.Err, Common.refl, Common.ap, lemmas.Result.err_from_is_err_and}
 use Rattle.console.specs.Files.{of_no_certificate, chain_not_read, chain_read}
 use Rattle.console.proofs.files.read_chain.Goals as goal
 

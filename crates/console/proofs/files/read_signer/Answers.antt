@@ -1,5 +1,4 @@
-use Rattle.std.proofs.Common.{Err, ap}
-use Rattle.std.proofs.lemmas.Result.{err_from_is_err_and}
+use Rattle.std.proofs.{Common.Err, Common.ap, lemmas.Result.err_from_is_err_and}
 use Rattle.console.specs.Files.{not_read, read_as}
 use Rattle.console.proofs.files.read_signer.Goals as goal
 

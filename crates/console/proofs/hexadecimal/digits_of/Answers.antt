@@ -1,6 +1,5 @@
 -- What `retain` keeps is what the closure's test keeps.
-use Rattle.std.proofs.Common.{rules, not}
-use Rattle.std.proofs.lemmas.List.Elements.{filter_from_retain}
+use Rattle.std.proofs.{Common.rules, Common.not, lemmas.List.Elements.filter_from_retain}
 use Rattle.console.specs.Hexadecimal.{is_blank}
 use Rattle.console.proofs.hexadecimal.digits_of.Goals as goal
 

@@ -1,10 +1,6 @@
-use Rattle.std.proofs.Common.{◌∙◌, ap, inr}
-use Rattle.std.proofs.lemmas.Result.{err_from_is_err_and}
-use Rattle.tsp.specs.Rules.{IsSpelled}
-use Rattle.tsp.specs.View.{request_view}
-use Rattle.tsp.specs.declared.rule.Rule.TheVariants.{Spelling}
-use Rattle.console.specs.Settings.{settings_value}
-use Rattle.console.specs.declared.fault.Fault.TheVariants.{Tsp}
+use Rattle.std.proofs.{Common.◌∙◌, Common.ap, Common.inr, lemmas.Result.err_from_is_err_and}
+use Rattle.tsp.specs.{Rules.IsSpelled, View.request_view, declared.rule.Rule.TheVariants.Spelling}
+use Rattle.console.specs.{Settings.settings_value, declared.fault.Fault.TheVariants.Tsp}
 use Rattle.console.proofs.Judgement.{only_request, lifted, granted, rejected, first_lifted, spelling_fails}
 use Rattle.console.proofs.tst.tst_reply.Goals as goal
 

@@ -1,7 +1,6 @@
 use Rattle.std.proofs.Common.{rules, ap, sym, subst}
 use Rattle.std.specs.Prelude.{IfSome}
-use Rattle.tsp.specs.Tst.{TstValue, IsTsaName}
-use Rattle.tsp.specs.View.{tst_view}
+use Rattle.tsp.specs.{Tst.TstValue, Tst.IsTsaName, View.tst_view}
 use Rattle.console.proofs.tst.write_reply.Goals as goal
 
 pub write_tst-requires-clause-lawful : goal.write_tst-requires-clause-lawful

@@ -1,19 +1,13 @@
 use Rattle.std.proofs.Common.{◌≡◌, ◌<◌, ◌^◌, ap, refl, rules, w64}
-use Rattle.std.proofs.lemmas.Int.{to_z_pos}
-use Rattle.std.proofs.lemmas.Option.{IfSome_then}
-use Rattle.std.proofs.lemmas.Result.{IfOk-weaker}
+use Rattle.std.proofs.{lemmas.Int.to_z_pos, lemmas.Option.IfSome_then, lemmas.Result.IfOk-weaker}
 use Rattle.der.specs.Node.{encoding}
-use Rattle.desk.specs.Answers.{reply_as}
-use Rattle.desk.specs.Command as answer
-use Rattle.desk.specs.declared.reply.Reply.{Reply}
 use Rattle.desk.specs.declared.reply.Reply.TheVariants.{Granted, Rejected}
+use Rattle.desk.specs.{Answers.reply_as, declared.reply.Reply.Reply}
+use Rattle.desk.specs.Command as answer
 use Rattle.policy.specs.View.{policy_view}
-use Rattle.tsp.specs.Rejection.{rejection}
-use Rattle.tsp.specs.declared.rule.Rule.{Rule}
-use Rattle.counter.specs.Fault.{fault_of_operation}
-use Rattle.counter.specs.Reply.{IsReplyOf, octets_of}
-use Rattle.counter.proofs.ReadDesks.{reads_desk}
-use Rattle.counter.proofs.Operations.{both, told}
+use Rattle.tsp.specs.{Rejection.rejection, declared.rule.Rule.Rule}
+use Rattle.counter.specs.{Fault.fault_of_operation, Reply.IsReplyOf, Reply.octets_of}
+use Rattle.counter.proofs.{ReadDesks.reads_desk, Operations.both, Operations.told}
 use Rattle.counter.proofs.answer.answer.Goals as goal
 
 rejected_octets : (reply : Reply) (rule : Rule) → reply_as reply ≡ answer.Rejected rule

@@ -1,10 +1,8 @@
 use Rattle.std.proofs.Common.{rules, ◌<◌, ◌^◌, inl, inr, pos, subst, w64}
-use Rattle.std.proofs.lemmas.Int.{to_z_pos}
-use Rattle.std.proofs.lemmas.Result.{IfErr-weaker, on_ok_weaker}
+use Rattle.std.proofs.{lemmas.Int.to_z_pos, lemmas.Result.IfErr-weaker, lemmas.Result.on_ok_weaker}
 use Rattle.policy.specs.View.{policy_view}
 use Rattle.counter.specs.Exchange.{HasStopped}
-use Rattle.counter.proofs.Exchanged.{ended, stopped}
-use Rattle.counter.proofs.ReadDesks.{reads_desk}
+use Rattle.counter.proofs.{Exchanged.ended, Exchanged.stopped, ReadDesks.reads_desk}
 use Rattle.counter.proofs.exchange.exchange.Goals as goal
 
 pub returns-in-Ok-clause-answered : goal.returns-in-Ok-clause-answered

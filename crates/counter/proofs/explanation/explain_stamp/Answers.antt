@@ -1,5 +1,4 @@
-use Rattle.std.proofs.Common.{◌∙◌, Err, ap, inr, refl}
-use Rattle.std.proofs.lemmas.Result.{err_from_is_err_and}
+use Rattle.std.proofs.{Common.◌∙◌, Common.Err, Common.ap, Common.inr, Common.refl, lemmas.Result.err_from_is_err_and}
 use Rattle.console.specs.declared.fault.Fault.TheVariants.{Input}
 use Rattle.counter.proofs.explanation.explain_stamp.Goals as goal
 

@@ -1,5 +1,4 @@
-use Rattle.std.proofs.Common.{refl}
-use Rattle.std.proofs.lemmas.Result.{IfErr-weaker, IfOk-weaker}
+use Rattle.std.proofs.{Common.refl, lemmas.Result.IfErr-weaker, lemmas.Result.IfOk-weaker}
 use Rattle.policy.specs.View.{account_view, policy_view}
 use Rattle.counter.specs.Fault.{fault_of_audit}
 use Rattle.counter.proofs.Extracts.{leaves}

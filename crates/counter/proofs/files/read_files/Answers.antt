@@ -1,5 +1,4 @@
-use Rattle.std.proofs.Common.{inl, inr, sym, subst}
-use Rattle.std.proofs.lemmas.Result.{err_from_is_err_and}
+use Rattle.std.proofs.{Common.inl, Common.inr, Common.sym, Common.subst, lemmas.Result.err_from_is_err_and}
 use Rattle.console.specs.Fault.{IsFileFault}
 use Rattle.counter.specs.Files.{of_policy, of_identity, of_signer, of_algorithm}
 use Rattle.counter.proofs.files.read_files.Goals as goal

@@ -1,5 +1,4 @@
-use Rattle.std.proofs.Common.{refl}
-use Rattle.std.proofs.lemmas.Result.{err_from_is_err_and}
+use Rattle.std.proofs.{Common.refl, lemmas.Result.err_from_is_err_and}
 use Rattle.counter.proofs.files.read_signing.Goals as goal
 
 pub returns-in_ok-read_signer-in-Key-clause-found : goal.returns-in_ok-read_signer-in-Key-clause-found

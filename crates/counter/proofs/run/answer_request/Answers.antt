@@ -1,9 +1,7 @@
 use Rattle.std.proofs.Common.{◌∙◌, Err, ap, inl, inr}
-use Rattle.std.proofs.lemmas.Option.{IfSome_then}
-use Rattle.std.proofs.lemmas.Result.{err_from_is_err_and}
-use Rattle.console.specs.Hexadecimal.{line}
+use Rattle.std.proofs.{lemmas.Option.IfSome_then, lemmas.Result.err_from_is_err_and}
+use Rattle.console.specs.{Hexadecimal.line, declared.fault.Fault.TheVariants.Input}
 use Rattle.counter.specs.Reply.{octets_of}
-use Rattle.console.specs.declared.fault.Fault.TheVariants.{Input}
 use Rattle.counter.proofs.run.answer_request.Goals as goal
 
 pub returns-clause-answered : goal.returns-clause-answered

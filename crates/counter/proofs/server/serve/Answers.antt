@@ -2,9 +2,8 @@ use Rattle.std.proofs.Common.{◌∙◌, Err, ap, inl, inr, sym}
 use Rattle.std.proofs.lemmas.Result.{IfErr-weaker, err_from_is_err_and, on_ok_weaker}
 use Rattle.policy.specs.View.{policy_view}
 use Rattle.counter.specs.Fault.{fault_of_operation}
-use Rattle.counter.proofs.ReadDesks.{reads_desk}
-use Rattle.counter.proofs.Operations.{told_refusal}
 use Rattle.counter.proofs.Starts.{file_not_failed, start_is_serving, start_not_failed, told_done, told_failed}
+use Rattle.counter.proofs.{ReadDesks.reads_desk, Operations.told_refusal}
 use Rattle.counter.proofs.server.serve.Goals as goal
 
 pub returns-in-Ok-clause-served : goal.returns-in-Ok-clause-served

@@ -1,7 +1,6 @@
 use Rattle.std.proofs.Common.{◌+◌, length, refl}
 use Rattle.book.specs.History.{Calibrated, calibrations, latest_calibration}
-use Rattle.book.specs.Sound.{is_backwards}
-use Rattle.book.specs.Values.{calibration_view}
+use Rattle.book.specs.{Sound.is_backwards, Values.calibration_view}
 use Rattle.desk.specs.Command.{Calibrate}
 use Rattle.desk.proofs.calls.Added.{entered_or_refused}
 use Rattle.desk.proofs.additions.add_calibration.Goals as goal

@@ -1,6 +1,5 @@
 use Rattle.std.proofs.Common.{◌+◌, length, false, refl}
-use Rattle.book.specs.History.{Held, holds}
-use Rattle.book.specs.Values.{hold_view}
+use Rattle.book.specs.{History.Held, History.holds, Values.hold_view}
 use Rattle.book.specs.declared.fault.StoreFault.TheVariants as store
 use Rattle.desk.specs.Command.{Hold}
 use Rattle.desk.proofs.calls.Added.{entered_or_refused, storage_or, not_back}

@@ -1,9 +1,7 @@
 use Rattle.std.proofs.Common.{sym, subst}
 use Rattle.book.specs.Values.{calibration_view}
-use Rattle.desk.specs.CallContract.{StepsBy, no_signer}
-use Rattle.desk.specs.Command.{Calibrate}
 use Rattle.desk.specs.auxiliary.Obstacles.{outcome_with, told_with}
-use Rattle.desk.specs.Shown.{numbered_as}
+use Rattle.desk.specs.{CallContract.StepsBy, CallContract.no_signer, Command.Calibrate, Shown.numbered_as}
 use Rattle.desk.proofs.calls.Added.{adding_is}
 use Rattle.desk.proofs.additions.calibrate_by.Goals as goal
 

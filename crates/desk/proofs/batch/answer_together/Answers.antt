@@ -1,16 +1,10 @@
 use Rattle.std.proofs.Common.{◌≡◌, ◌∙◌, List, ℕ, map, ap, subst}
 use Rattle.cms.specs.Signer.{signed_by, SignsEach}
-use Rattle.desk.specs.Answers.{reply_as}
-use Rattle.desk.specs.Calls.{settings_view}
-use Rattle.desk.specs.auxiliary.Completions.{texts_of}
-use Rattle.desk.specs.auxiliary.Halves.{AreFinished}
-use Rattle.desk.specs.Sent.{SendsReserved}
 use Rattle.desk.specs.Together.{questions_view, IsAnsweredTogether}
-use Rattle.desk.specs.WaitingStamps.{pendings_in}
-use Rattle.desk.proofs.stamps.Batches.{ShowLaws}
-use Rattle.desk.proofs.stamps.Completions.{counts_each}
+use Rattle.desk.specs.{Answers.reply_as, Calls.settings_view, auxiliary.Completions.texts_of}
+use Rattle.desk.specs.{auxiliary.Halves.AreFinished, Sent.SendsReserved, WaitingStamps.pendings_in}
 use Rattle.desk.proofs.stamps.Halves.{begun_texts, halves}
-use Rattle.desk.proofs.journeys.Sound.{TextLaws}
+use Rattle.desk.proofs.{stamps.Batches.ShowLaws, stamps.Completions.counts_each, journeys.Sound.TextLaws}
 use Rattle.desk.proofs.batch.answer_together.Goals as goal
 
 pub returns : goal.returns

@@ -1,14 +1,10 @@
 use Rattle.std.proofs.Common.{◌∙◌, map, refl, sym, ap, subst}
 use Rattle.book.specs.History.{Reserved}
-use Rattle.desk.specs.Calls.{settings_view}
-use Rattle.desk.specs.Commits.{call_for, IsCommitted, untried}
 use Rattle.desk.specs.auxiliary.Halves.{AreBegun, at_once, anew}
-use Rattle.desk.specs.Together.{questions_view}
-use Rattle.desk.specs.auxiliary.Verdicts.{JudgesEach}
-use Rattle.desk.specs.WaitingStamps.{waiting_view}
-use Rattle.desk.proofs.stamps.Committed.{commit_fine, commit_refused}
-use Rattle.desk.proofs.stamps.Halves.{begun_honest}
+use Rattle.desk.specs.{Calls.settings_view, Commits.call_for, Commits.IsCommitted, Commits.untried}
+use Rattle.desk.specs.{Together.questions_view, auxiliary.Verdicts.JudgesEach, WaitingStamps.waiting_view}
 use Rattle.desk.proofs.batch_start.begin_each.Goals.{then-is_err, else-is_err}
+use Rattle.desk.proofs.{stamps.Committed.commit_fine, stamps.Committed.commit_refused, stamps.Halves.begun_honest}
 use Rattle.desk.proofs.batch_start.begin_each.Goals as goal
 
 pub returns-clause-begins : goal.returns-clause-begins

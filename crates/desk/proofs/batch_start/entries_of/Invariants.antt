@@ -1,7 +1,6 @@
 use Rattle.std.proofs.Common.{◌≡◌, ◌≤◌, length, map, take, vec_len}
 use Rattle.std.specs.Prelude.{vec_capacity}
-use Rattle.book.specs.Entries.{entries_view}
-use Rattle.book.specs.History.{Reserved}
+use Rattle.book.specs.{Entries.entries_view, History.Reserved}
 use Rattle.desk.specs.WaitingStamps.{waiting_view}
 use Rattle.desk.proofs.batch_start.entries_of.Given as goal
 

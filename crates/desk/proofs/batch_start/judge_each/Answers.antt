@@ -1,8 +1,7 @@
 use Rattle.std.proofs.Common.{◌+◌, ◌≤◌, ◌∙◌, [], length, take, sym, ap, subst, arith, rules}
 use Rattle.std.proofs.lemmas.List.{take_all}
-use Rattle.desk.specs.Calls.{settings_view}
-use Rattle.desk.specs.Together.{question_view, questions_view}
 use Rattle.desk.specs.auxiliary.Verdicts.{verdict_of, JudgesEach, JudgesOne}
+use Rattle.desk.specs.{Calls.settings_view, Together.question_view, Together.questions_view}
 use Rattle.desk.proofs.stamps.BatchJudgement.{asked_more, judges_none, judges_next}
 use Rattle.desk.proofs.batch_start.judge_each.Goals as goal
 

@@ -1,8 +1,6 @@
 use Rattle.std.proofs.Common.{◌≡◌, ◌≤◌, length, take, vec_len}
 use Rattle.std.specs.Prelude.{vec_capacity}
-use Rattle.desk.specs.Calls.{settings_view}
-use Rattle.desk.specs.Together.{questions_view}
-use Rattle.desk.specs.auxiliary.Verdicts.{JudgesEach}
+use Rattle.desk.specs.{Calls.settings_view, Together.questions_view, auxiliary.Verdicts.JudgesEach}
 use Rattle.desk.proofs.batch_start.judge_each.Given as goal
 
 abbrev pub invariant-loop-question : goal.invariant-loop-question

@@ -1,5 +1,4 @@
-use Rattle.std.proofs.Common.{map, sym, ◌∙◌}
-use Rattle.std.proofs.lemmas.Result.{err_from_is_err_and}
+use Rattle.std.proofs.{Common.map, Common.sym, Common.◌∙◌, lemmas.Result.err_from_is_err_and}
 use Rattle.book.specs.History.{Reserved}
 use Rattle.desk.specs.WaitingStamps.{waiting_view}
 use Rattle.desk.proofs.stamps.Committed.{some_of_both, unmet}

@@ -1,9 +1,7 @@
 use Rattle.std.proofs.Common.{◌≡◌, ◌≤◌, [], length, take, vec_len}
 use Rattle.std.specs.Prelude.{vec_capacity}
-use Rattle.desk.specs.Calls.{settings_view}
-use Rattle.desk.specs.Outcome.{Call, Fine}
-use Rattle.desk.specs.Together.{questions_view}
 use Rattle.desk.specs.auxiliary.Verdicts.{JudgesEach}
+use Rattle.desk.specs.{Calls.settings_view, Outcome.Call, Outcome.Fine, Together.questions_view}
 use Rattle.desk.proofs.batch_start.settle_each.Given as goal
 
 abbrev pub invariant-loop-question : goal.invariant-loop-question

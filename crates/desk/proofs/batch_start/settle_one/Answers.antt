@@ -1,7 +1,6 @@
 use Rattle.std.proofs.Common.{[], Ok, refl}
 use Rattle.desk.specs.Calls.{settings_view, refused, why_of}
-use Rattle.desk.specs.Outcome.{ByCause, all_fine}
-use Rattle.desk.specs.Together.{question_view}
+use Rattle.desk.specs.{Outcome.ByCause, Outcome.all_fine, Together.question_view}
 use Rattle.desk.proofs.stamps.BatchJudgement.{judged_refused, refused_why}
 use Rattle.desk.proofs.batch_start.settle_one.Goals as goal
 

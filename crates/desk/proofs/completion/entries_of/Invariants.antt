@@ -1,8 +1,7 @@
 use Rattle.std.proofs.Common.{◌≡◌, ◌≤◌, length, map, take, vec_len}
 use Rattle.std.specs.Prelude.{vec_capacity}
 use Rattle.book.specs.Entries.{entries_view}
-use Rattle.desk.specs.Batches.{seal_entry}
-use Rattle.desk.specs.auxiliary.Completions.{seal_view}
+use Rattle.desk.specs.{Batches.seal_entry, auxiliary.Completions.seal_view}
 use Rattle.desk.proofs.completion.entries_of.Given as goal
 
 abbrev pub invariant-loop-seal : goal.invariant-loop-seal

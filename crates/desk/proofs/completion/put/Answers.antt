@@ -1,8 +1,7 @@
 use Rattle.std.proofs.Common.{◌∙◌, Some, Ok, map, refl, sym, ap, subst}
 use Rattle.cms.specs.Signer.{signed_by}
-use Rattle.desk.specs.Calls.{settings_view}
 use Rattle.desk.specs.auxiliary.Completions.{seal_view, IsWritten}
-use Rattle.desk.specs.WaitingStamps.{pending_in}
+use Rattle.desk.specs.{Calls.settings_view, WaitingStamps.pending_in}
 use Rattle.desk.proofs.stamps.Completions.{written_sealed, written_void}
 use Rattle.desk.proofs.completion.put.Goals as goal
 

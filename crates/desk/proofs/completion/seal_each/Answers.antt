@@ -1,7 +1,5 @@
-use Rattle.std.proofs.Common.{map, sym, ◌∙◌}
-use Rattle.std.proofs.lemmas.Result.{err_from_is_err_and}
-use Rattle.desk.specs.Batches.{seal_entry}
-use Rattle.desk.specs.auxiliary.Completions.{seal_view}
+use Rattle.std.proofs.{Common.map, Common.sym, Common.◌∙◌, lemmas.Result.err_from_is_err_and}
+use Rattle.desk.specs.{Batches.seal_entry, auxiliary.Completions.seal_view}
 use Rattle.desk.proofs.stamps.Committed.{some_of_both, unmet}
 use Rattle.desk.proofs.completion.seal_each.Goals as goal
 

@@ -1,6 +1,5 @@
 use Rattle.std.proofs.Common.{◌∙◌, map, ap, sym}
-use Rattle.desk.specs.Answers.{reply_as}
-use Rattle.desk.specs.Commits.{call_for, if_accepted}
+use Rattle.desk.specs.{Answers.reply_as, Commits.call_for, Commits.if_accepted}
 use Rattle.desk.proofs.stamps.Committed.{commit_fine, commit_refused, none_accepted}
 use Rattle.desk.proofs.completion.told_by.Goals.{then-is_err, else-is_err}
 use Rattle.desk.proofs.completion.told_by.Goals as goal

@@ -1,9 +1,6 @@
 use Rattle.std.proofs.Common.{◌+◌, ◌∙◌, map, ap, arith}
 use Rattle.cms.specs.Signer.{signed_by}
-use Rattle.desk.specs.Answers.{reply_as}
-use Rattle.desk.specs.Calls.{settings_view}
-use Rattle.desk.specs.auxiliary.Completions.{seal_view}
-use Rattle.desk.specs.WaitingStamps.{pending_in}
+use Rattle.desk.specs.{Answers.reply_as, Calls.settings_view, auxiliary.Completions.seal_view, WaitingStamps.pending_in}
 use Rattle.desk.proofs.stamps.Completions.{written_next}
 use Rattle.desk.proofs.completion.write_each.Goals as goal
 

@@ -1,10 +1,8 @@
 use Rattle.std.proofs.Common.{◌≡◌, ◌≤◌, length, map, take, vec_len}
 use Rattle.std.specs.Prelude.{vec_capacity}
 use Rattle.cms.specs.Signer.{signed_by}
-use Rattle.desk.specs.Answers.{reply_as}
-use Rattle.desk.specs.Calls.{settings_view}
 use Rattle.desk.specs.auxiliary.Completions.{seal_view, AreWritten}
-use Rattle.desk.specs.WaitingStamps.{pendings_in}
+use Rattle.desk.specs.{Answers.reply_as, Calls.settings_view, WaitingStamps.pendings_in}
 use Rattle.desk.proofs.completion.write_each.Given as goal
 
 abbrev pub invariant-loop-index : goal.invariant-loop-index

@@ -1,14 +1,10 @@
 use Rattle.std.proofs.Common.{◌≡◌, refl, ap, ◌∙◌, subst, inl, inr, SFits, w64, to_z-of_z, rules}
 use Rattle.policy.specs.View.{policy_view}
-use Rattle.tsp.specs.View.{request_view}
-use Rattle.tsp.specs.declared.rule.Rule.TheVariants.{Clock}
-use Rattle.decide.specs.Clock.{IsGood, IsGoodAt}
-use Rattle.decide.specs.View.{account_asked}
-use Rattle.desk.specs.Facts.{clock_of, facts_of}
-use Rattle.desk.specs.WaitingStamps.{with_waiting}
+use Rattle.tsp.specs.{View.request_view, declared.rule.Rule.TheVariants.Clock}
+use Rattle.decide.specs.{Clock.IsGood, Clock.IsGoodAt, View.account_asked}
+use Rattle.desk.specs.{Facts.clock_of, Facts.facts_of, WaitingStamps.with_waiting}
 use Rattle.desk.proofs.stamps.Judgement.{same_cause, facts_are, first_lifted, all_lifted, unasked_lifted, answered_for}
-use Rattle.desk.proofs.stamps.Judgement.{looks_then}
-use Rattle.desk.proofs.documents.Late.{late_with}
+use Rattle.desk.proofs.{stamps.Judgement.looks_then, documents.Late.late_with}
 use Rattle.desk.proofs.findings.ask.Goals as goal
 
 pub returns-in-Err-clause-finds : goal.returns-in-Err-clause-finds

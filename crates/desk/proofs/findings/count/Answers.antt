@@ -2,8 +2,7 @@ use Rattle.std.proofs.Common.{◌≡◌, sym, ap, ◌∙◌, subst}
 use Rattle.policy.specs.View.{account_view}
 use Rattle.decide.specs.View.{account_asked}
 use Rattle.book.specs.History.{count_of_day, day_of}
-use Rattle.desk.specs.Calls.{count_for}
-use Rattle.desk.specs.WaitingStamps.{with_waiting}
+use Rattle.desk.specs.{Calls.count_for, WaitingStamps.with_waiting}
 use Rattle.desk.proofs.stamps.Among.{count_among}
 use Rattle.desk.proofs.findings.count.Goals as goal
 

@@ -2,13 +2,10 @@ use Rattle.std.proofs.Common.{refl, ap}
 use Rattle.policy.specs.View.{policy_view}
 use Rattle.tsp.specs.View.{request_view}
 use Rattle.decide.specs.View.{account_asked}
-use Rattle.desk.specs.Facts.{facts_of}
-use Rattle.desk.specs.Findings.{HoldsUnasked}
-use Rattle.desk.specs.WaitingStamps.{with_waiting}
+use Rattle.desk.specs.{Facts.facts_of, Findings.HoldsUnasked, WaitingStamps.with_waiting}
 use Rattle.desk.specs.declared.refusal.StampRefusal.TheVariants as refusal
-use Rattle.desk.proofs.journeys.Headline.{one_first}
 use Rattle.desk.proofs.stamps.Judgement.{unasked_first, unasked_lifted, first_lifted, answered_for}
-use Rattle.desk.proofs.documents.Late.{late_of}
+use Rattle.desk.proofs.{journeys.Headline.one_first, documents.Late.late_of}
 use Rattle.desk.proofs.findings.judge.Goals as goal
 
 pub returns-in-Some-clause-finds : goal.returns-in-Some-clause-finds

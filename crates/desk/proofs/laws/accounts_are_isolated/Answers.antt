@@ -1,5 +1,4 @@
-use Rattle.desk.proofs.journeys.Sound.{TextLaws}
-use Rattle.desk.proofs.journeys.Whole.{runs_alike}
+use Rattle.desk.proofs.{journeys.Sound.TextLaws, journeys.Whole.runs_alike}
 use Rattle.desk.proofs.laws.accounts_are_isolated.Goals as goal
 
 pub returns : goal.returns

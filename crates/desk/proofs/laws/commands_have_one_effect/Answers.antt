@@ -1,5 +1,4 @@
-use Rattle.desk.proofs.journeys.OneEffect.{one_effect}
-use Rattle.desk.proofs.journeys.Sound.{TextLaws}
+use Rattle.desk.proofs.{journeys.OneEffect.one_effect, journeys.Sound.TextLaws}
 use Rattle.desk.proofs.laws.commands_have_one_effect.Goals as goal
 
 pub returns : goal.returns

@@ -1,7 +1,5 @@
 use Rattle.desk.proofs.journeys.Headline.{granted_is, rejected_is, granted_where, rejected_where}
-use Rattle.desk.proofs.journeys.Planned.{of_plan}
-use Rattle.desk.proofs.journeys.Sound.{TextLaws}
-use Rattle.desk.proofs.journeys.Views.{reserved_below}
+use Rattle.desk.proofs.{journeys.Planned.of_plan, journeys.Sound.TextLaws, journeys.Views.reserved_below}
 use Rattle.desk.proofs.laws.grants_are_of_their_plan.Goals as goal
 
 pub returns : goal.returns

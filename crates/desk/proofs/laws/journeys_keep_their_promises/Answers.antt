@@ -1,8 +1,6 @@
-use Rattle.desk.proofs.journeys.Acknowledged.{readers_along}
-use Rattle.desk.proofs.journeys.FallingSerials.{given_in_order}
-use Rattle.desk.proofs.journeys.Sound.{TextLaws}
 use Rattle.desk.proofs.journeys.KeptPromises.{journeys_have_properties, open_along}
-use Rattle.desk.proofs.journeys.Whole.{continued_properties}
+use Rattle.desk.proofs.{journeys.Acknowledged.readers_along, journeys.FallingSerials.given_in_order}
+use Rattle.desk.proofs.{journeys.Sound.TextLaws, journeys.Whole.continued_properties}
 use Rattle.desk.proofs.laws.journeys_keep_their_promises.Goals as goal
 
 pub returns : goal.returns

@@ -1,5 +1,4 @@
-use Rattle.desk.proofs.journeys.Promised.{keeps_promises}
-use Rattle.desk.proofs.journeys.Sound.{TextLaws}
+use Rattle.desk.proofs.{journeys.Promised.keeps_promises, journeys.Sound.TextLaws}
 use Rattle.desk.proofs.laws.steps_keep_their_promises.Goals as goal
 
 pub returns : goal.returns

@@ -1,5 +1,4 @@
-use Rattle.desk.proofs.journeys.Sound.{TextLaws}
-use Rattle.desk.proofs.journeys.Whole.{step_sound, cut_sound}
+use Rattle.desk.proofs.{journeys.Sound.TextLaws, journeys.Whole.step_sound, journeys.Whole.cut_sound}
 use Rattle.desk.proofs.laws.steps_leave_sound_histories.Goals as goal
 
 pub returns : goal.returns

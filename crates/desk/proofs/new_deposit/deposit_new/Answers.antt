@@ -1,15 +1,11 @@
 use Rattle.std.proofs.Common.{Some, ap, sym, subst, SFits, w64, to_z-of_z, rules}
 use Rattle.policy.specs.View.{account_view}
-use Rattle.tsp.specs.Request.{RequestValue}
-use Rattle.tsp.specs.View.{request_view}
-use Rattle.desk.specs.Calls.{settings_view}
+use Rattle.tsp.specs.{Request.RequestValue, View.request_view}
 use Rattle.desk.specs.CallContract.{StepsWhere, with_signer}
-use Rattle.desk.specs.Command.{Deposit}
-use Rattle.desk.specs.Effects.{for_deposit}
 use Rattle.desk.specs.auxiliary.NewDeposit.{octets_of, question_of, IsUnused}
-use Rattle.desk.proofs.stamps.Beginnings.{begins}
+use Rattle.desk.specs.{Calls.settings_view, Command.Deposit, Effects.for_deposit}
 use Rattle.desk.proofs.documents.NewDeposits.{request_is, new_deposit, lent_octets}
-use Rattle.desk.proofs.stamps.Stamps.{is_whole}
+use Rattle.desk.proofs.{stamps.Beginnings.begins, stamps.Stamps.is_whole}
 use Rattle.desk.proofs.new_deposit.deposit_new.Goals as goal
 
 pub write_request-written-requires : goal.write_request-written-requires

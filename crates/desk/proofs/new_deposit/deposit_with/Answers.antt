@@ -1,20 +1,14 @@
 use Rattle.std.proofs.Common.{[], Ok, length, sym, subst, arith}
 use Rattle.std.proofs.lemmas.Result.{err_from_is_err_and}
 use Rattle.policy.specs.View.{account_view}
-use Rattle.desk.specs.Answers.{answered}
-use Rattle.desk.specs.Calls.{settings_view}
-use Rattle.desk.specs.Command.{Deposit, Refused}
-use Rattle.desk.specs.Calls.{store_cause}
-use Rattle.desk.specs.auxiliary.NewDeposit.{IsUnused}
-use Rattle.desk.specs.Outcome.{all_fine}
-use Rattle.desk.specs.Shown.{deposited_as}
-use Rattle.desk.specs.CallContract.{StepsBy, with_signer}
-use Rattle.desk.specs.auxiliary.Obstacles.{fault_with}
+use Rattle.desk.specs.{Answers.answered, Calls.settings_view, Command.Deposit, Command.Refused, Calls.store_cause}
+use Rattle.desk.specs.{auxiliary.NewDeposit.IsUnused, Outcome.all_fine, Shown.deposited_as, CallContract.StepsBy}
+use Rattle.desk.specs.{CallContract.with_signer, auxiliary.Obstacles.fault_with}
 use Rattle.desk.specs.declared.obstacle.Obstacle.TheVariants as obstacle
-use Rattle.desk.proofs.documents.KnownDeposits.{is_too_large, is_unsearched, unsearched, is_same, is_other, is_unused, is_after}
-use Rattle.desk.proofs.documents.Late.{by_cause}
-use Rattle.desk.proofs.documents.NewDeposits.{is_few}
+use Rattle.desk.proofs.documents.KnownDeposits.{is_too_large, is_unsearched, unsearched, is_same, is_other, is_unused}
+use Rattle.desk.proofs.documents.KnownDeposits.{is_after}
 use Rattle.desk.proofs.calls.Wrapped.{call_ok, call_err}
+use Rattle.desk.proofs.{documents.Late.by_cause, documents.NewDeposits.is_few}
 use Rattle.desk.proofs.new_deposit.deposit_with.Goals as goal
 
 pub returns-then-bytes-gt-MOST-clause-step : goal.returns-then-bytes-gt-MOST-clause-step

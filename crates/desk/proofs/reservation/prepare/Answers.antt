@@ -1,12 +1,8 @@
 use Rattle.std.proofs.Common.{◌≡◌, ◌+◌, sym, ap, ◌∙◌, subst, arith, option_map}
-use Rattle.der.specs.DataValueView.{value_view}
-use Rattle.der.specs.Node.{encoding, IsLawful}
-use Rattle.der.specs.ObjectIdentifier.{IsOid}
-use Rattle.tsp.specs.Tst.{answer, tst_info}
-use Rattle.tsp.specs.View.{request_view}
+use Rattle.der.specs.{DataValueView.value_view, Node.encoding, Node.IsLawful, ObjectIdentifier.IsOid}
+use Rattle.tsp.specs.{Tst.answer, Tst.tst_info, View.request_view}
 use Rattle.cms.specs.SignedData.{attribute_text}
-use Rattle.desk.specs.Calls.{settings_view, plan_of}
-use Rattle.desk.specs.Texts.{tst_of, reservation_of}
+use Rattle.desk.specs.{Calls.settings_view, Calls.plan_of, Texts.tst_of, Texts.reservation_of}
 use Rattle.desk.proofs.stamps.BatchJudgement.{next_is}
 use Rattle.desk.proofs.reservation.prepare.Goals as goal
 

@@ -1,7 +1,6 @@
 use Rattle.std.proofs.Common.{[], ◌∷◌, Ok, Err, refl, subst}
 use Rattle.std.proofs.lemmas.Result.{err_from_is_err_and}
-use Rattle.book.specs.Entries.{Appends}
-use Rattle.book.specs.History.{Reserved}
+use Rattle.book.specs.{Entries.Appends, History.Reserved}
 use Rattle.desk.specs.declared.refusal.StampRefusal.TheVariants as refusal
 use Rattle.desk.proofs.calls.Wrapped.{call_ok, call_err}
 use Rattle.desk.proofs.reservation.reserve.Goals as goal

@@ -1,12 +1,9 @@
-use Rattle.std.proofs.Common.{subst}
-use Rattle.std.proofs.lemmas.Result.{err_from_is_err_and}
+use Rattle.std.proofs.{Common.subst, lemmas.Result.err_from_is_err_and}
 use Rattle.policy.specs.View.{account_view}
 use Rattle.book.specs.Entries.{reader_view}
-use Rattle.desk.specs.Calls.{settings_view}
-use Rattle.desk.specs.auxiliary.Obstacles.{MayName, MayNot}
+use Rattle.desk.specs.{Calls.settings_view, auxiliary.Obstacles.MayName, auxiliary.Obstacles.MayNot}
 use Rattle.desk.specs.declared.obstacle.Obstacle.TheVariants as obstacle
-use Rattle.desk.proofs.documents.Grants.{right_denied, right_told}
-use Rattle.desk.proofs.calls.Wrapped.{wrapped_is}
+use Rattle.desk.proofs.{documents.Grants.right_denied, documents.Grants.right_told, calls.Wrapped.wrapped_is}
 use Rattle.desk.proofs.rights.change_by.Goals as goal
 
 pub returns-in_err-may_name-clause-step : goal.returns-in_err-may_name-clause-step

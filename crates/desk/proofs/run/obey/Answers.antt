@@ -1,13 +1,11 @@
 use Rattle.std.proofs.Common.{refl, ◌∙◌, sym, ap, SFits, w64, to_z, of_z, to_z-of_z, rules}
 use Rattle.policy.specs.View.{account_view}
-use Rattle.book.specs.Entries.{reader_view}
-use Rattle.book.specs.Values.{calibration_view, hold_view}
+use Rattle.book.specs.{Entries.reader_view, Values.calibration_view, Values.hold_view}
 use Rattle.decide.specs.View.{account_asked}
-use Rattle.desk.specs.Answers.{reply_as, answered}
-use Rattle.desk.specs.Asked.{command_view, answer_view}
 use Rattle.desk.specs.Calls.{settings_view, in_force_of}
 use Rattle.desk.specs.Command.{Stamp, Deposit, Show, Token, ListAll, Grant, Revoke, Calibrate, Hold}
 use Rattle.desk.specs.Shown.{deposited_as, shown_as, listed_as, done_as, numbered_as}
+use Rattle.desk.specs.{Answers.reply_as, Answers.answered, Asked.command_view, Asked.answer_view}
 use Rattle.desk.proofs.journeys.RunsOn.{obeyed_as, obeyed_by, obeyed_succession, succeeded_after}
 use Rattle.desk.proofs.run.obey.Goals as goal
 

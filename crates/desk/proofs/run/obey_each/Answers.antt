@@ -1,8 +1,7 @@
 use Rattle.std.proofs.Common.{◌+◌, [], ◌∷◌, ◌++◌, ◌∙◌, refl, sym, ap, subst, arith}
 use Rattle.std.proofs.lemmas.List.{take_all}
 use Rattle.desk.specs.Asked.{command_view, answer_view, commands_view, answers_view}
-use Rattle.desk.specs.Calls.{settings_view}
-use Rattle.desk.specs.RunContract.{AreSteps}
+use Rattle.desk.specs.{Calls.settings_view, RunContract.AreSteps}
 use Rattle.desk.proofs.journeys.RunsOn.{steps_more}
 use Rattle.desk.proofs.run.obey_each.Goals as goal
 

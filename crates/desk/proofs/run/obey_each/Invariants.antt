@@ -1,9 +1,7 @@
 use Rattle.std.proofs.Common.{◌≡◌, ◌≤◌, List, length, take, vec_len}
 use Rattle.std.specs.Prelude.{vec_capacity}
 use Rattle.desk.specs.Asked.{commands_view, answers_view}
-use Rattle.desk.specs.Calls.{settings_view}
-use Rattle.desk.specs.Outcome.{Outcome}
-use Rattle.desk.specs.RunContract.{AreSteps}
+use Rattle.desk.specs.{Calls.settings_view, Outcome.Outcome, RunContract.AreSteps}
 use Rattle.desk.proofs.run.obey_each.Given as goal
 
 abbrev pub invariant-loop-command : goal.invariant-loop-command

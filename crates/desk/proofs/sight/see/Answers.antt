@@ -2,8 +2,7 @@ use Rattle.std.proofs.Common.{sym, ◌∙◌}
 use Rattle.policy.specs.View.{policy_view}
 use Rattle.desk.specs.Viewers.{viewer_in}
 use Rattle.desk.specs.declared.obstacle.Obstacle.TheVariants as obstacle
-use Rattle.desk.proofs.documents.Shows.{unseen_where, seen_where}
-use Rattle.desk.proofs.calls.Wrapped.{call_ok}
+use Rattle.desk.proofs.{documents.Shows.unseen_where, documents.Shows.seen_where, calls.Wrapped.call_ok}
 use Rattle.desk.proofs.sight.see.Goals as goal
 
 pub returns-then-not-visible-clause-sees : goal.returns-then-not-visible-clause-sees

@@ -1,19 +1,13 @@
-use Rattle.std.proofs.Common.{[], Ok, refl, subst, ◌∙◌}
-use Rattle.std.proofs.lemmas.Result.{err_from_is_err_and}
+use Rattle.std.proofs.{Common.[], Common.Ok, Common.refl, Common.subst, Common.◌∙◌, lemmas.Result.err_from_is_err_and}
 use Rattle.policy.specs.View.{account_view}
-use Rattle.book.specs.Readers.{Account}
-use Rattle.book.specs.Values.{deposit_view}
-use Rattle.desk.specs.Calls.{settings_view}
-use Rattle.desk.specs.Viewers.{viewer_in}
-use Rattle.desk.specs.Command.{Show, Shown, Refused}
-use Rattle.desk.specs.auxiliary.Obstacles.{Sees, IsUnseen}
-use Rattle.desk.specs.Outcome.{all_fine}
+use Rattle.book.specs.{Readers.Account, Values.deposit_view}
+use Rattle.desk.specs.{Calls.settings_view, Viewers.viewer_in, Command.Show, Command.Shown, Command.Refused}
+use Rattle.desk.specs.{auxiliary.Obstacles.Sees, auxiliary.Obstacles.IsUnseen, Outcome.all_fine}
 use Rattle.desk.specs.declared.fault.Fault.TheVariants as fault
 use Rattle.desk.specs.declared.obstacle.Obstacle.TheVariants as obstacle
 use Rattle.desk.proofs.documents.Denied.{looks_as, denied, deposit_found, sight_is_right, unlooked, unshown, shown}
-use Rattle.desk.proofs.stamps.Judgement.{looks_then}
-use Rattle.desk.proofs.documents.Shows.{unseen}
 use Rattle.desk.proofs.calls.Wrapped.{call_ok, call_err}
+use Rattle.desk.proofs.{stamps.Judgement.looks_then, documents.Shows.unseen}
 use Rattle.desk.proofs.sight.show_to.Goals as goal
 
 pub returns-in_err-see-clause-step : goal.returns-in_err-see-clause-step

@@ -1,22 +1,17 @@
 use Rattle.std.proofs.Common.{[], Ok, refl, sym, ◌∙◌, ap, subst}
-use Rattle.std.specs.Option.{option_map}
 use Rattle.std.proofs.lemmas.Result.{err_from_is_err_and}
+use Rattle.std.specs.Option.{option_map}
 use Rattle.policy.specs.View.{account_view}
 use Rattle.book.specs.Readers.{Account}
 use Rattle.book.proofs.Stamps.{stamp_found}
 use Rattle.tsp.specs.Granted.{granted_octets}
-use Rattle.desk.specs.Calls.{settings_view}
-use Rattle.desk.specs.Viewers.{viewer_in}
-use Rattle.desk.specs.Command.{Token, Shown, Refused}
-use Rattle.desk.specs.auxiliary.Obstacles.{Sees, IsUnseen}
-use Rattle.desk.specs.Outcome.{OutOfMemory, all_fine}
+use Rattle.desk.specs.{Calls.settings_view, Viewers.viewer_in, Command.Token, Command.Shown, Command.Refused}
+use Rattle.desk.specs.{auxiliary.Obstacles.Sees, auxiliary.Obstacles.IsUnseen, Outcome.OutOfMemory, Outcome.all_fine}
 use Rattle.desk.specs.declared.fault.Fault.TheVariants as fault
 use Rattle.desk.specs.declared.obstacle.Obstacle.TheVariants as obstacle
 use Rattle.desk.proofs.documents.Denied.{looks_as, denied, sight_is_right, token_found, unlooked, untold, untokened}
-use Rattle.desk.proofs.documents.Denied.{told, ungrown}
-use Rattle.desk.proofs.calls.Fits.{none_failed}
-use Rattle.desk.proofs.stamps.Judgement.{looks_then}
-use Rattle.desk.proofs.calls.Wrapped.{call_ok, call_err}
+use Rattle.desk.proofs.{documents.Denied.told, documents.Denied.ungrown, calls.Fits.none_failed}
+use Rattle.desk.proofs.{stamps.Judgement.looks_then, calls.Wrapped.call_ok, calls.Wrapped.call_err}
 use Rattle.desk.proofs.sight.token_to.Goals as goal
 
 pub returns-in_err-see-clause-step : goal.returns-in_err-see-clause-step

@@ -1,14 +1,8 @@
 use Rattle.std.proofs.Common.{◌≡◌, ◌∙◌, [], Err, refl, ap, sym, subst}
 use Rattle.std.specs.Prelude.{IfErr}
-use Rattle.desk.specs.Answers.{ended_as}
-use Rattle.desk.specs.Batches.{stamp_for}
-use Rattle.desk.specs.Calls.{settings_view}
 use Rattle.desk.specs.CallContract.{StepsBy, with_signer}
-use Rattle.desk.specs.Effects.{for_reply, in_seal}
-use Rattle.desk.specs.auxiliary.Kept.{kept_as}
-use Rattle.desk.specs.MachineStep.{IsMet}
-use Rattle.desk.specs.Together.{question_view}
-use Rattle.desk.specs.auxiliary.Wholes.{answer_by}
+use Rattle.desk.specs.{Answers.ended_as, Batches.stamp_for, Calls.settings_view, Effects.for_reply, Effects.in_seal}
+use Rattle.desk.specs.{auxiliary.Kept.kept_as, MachineStep.IsMet, Together.question_view, auxiliary.Wholes.answer_by}
 use Rattle.desk.proofs.stamps.Beginnings.{begins, begins_unasked}
 use Rattle.desk.proofs.stamps.Stamps.{is_stamp, is_whole}
 use Rattle.desk.proofs.stamp.answer_with.Goals as goal

@@ -1,8 +1,6 @@
 use Rattle.std.proofs.Common.{ℕ, List, [], Ok, Err, refl, sym, ◌∙◌, subst}
 use Rattle.std.proofs.lemmas.Result.{err_from_is_err_and}
-use Rattle.desk.specs.Outcome.{all_fine}
-use Rattle.desk.specs.Calls.{outcome_of}
-use Rattle.desk.specs.auxiliary.Kept.{keeping_view}
+use Rattle.desk.specs.{Outcome.all_fine, Calls.outcome_of, auxiliary.Kept.keeping_view}
 use Rattle.desk.proofs.stamps.Endings.{unsigned, signer_counted}
 use Rattle.desk.proofs.stamp_end.complete.Goals as goal
 

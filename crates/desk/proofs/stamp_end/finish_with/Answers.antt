@@ -2,11 +2,9 @@ use Rattle.std.proofs.Common.{[], ◌∷◌, Some, Ok, Err, sym, ap, subst, ◌�
 use Rattle.std.proofs.lemmas.Result.{err_from_is_err_and}
 use Rattle.tsp.specs.Granted.{granted_octets}
 use Rattle.book.specs.Entries.{Appends}
-use Rattle.desk.specs.auxiliary.Completions.{IsWritten}
-use Rattle.desk.specs.auxiliary.Kept.{keeping_view}
+use Rattle.desk.specs.{auxiliary.Completions.IsWritten, auxiliary.Kept.keeping_view}
 use Rattle.desk.specs.declared.refusal.StampRefusal.TheVariants as refusal
-use Rattle.desk.proofs.stamps.Endings.{stored, unstored}
-use Rattle.desk.proofs.calls.Wrapped.{call_ok, call_err}
+use Rattle.desk.proofs.{stamps.Endings.stored, stamps.Endings.unstored, calls.Wrapped.call_ok, calls.Wrapped.call_err}
 use Rattle.desk.proofs.stamp_end.finish_with.Goals as goal
 
 pub returns-clause-granted : goal.returns-clause-granted

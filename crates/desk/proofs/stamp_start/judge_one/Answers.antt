@@ -1,17 +1,12 @@
 use Rattle.std.proofs.Common.{Err, refl, ap, inl}
 use Rattle.policy.specs.View.{policy_view}
 use Rattle.tsp.specs.declared.rule.Rule.TheVariants.{Spelling}
-use Rattle.decide.specs.Rules.{Holds, HoldsOf}
-use Rattle.decide.specs.View.{account_asked}
-use Rattle.desk.specs.Calls.{settings_view}
-use Rattle.desk.specs.Facts.{facts_of}
-use Rattle.desk.specs.Findings.{HoldsUnasked}
-use Rattle.desk.specs.Together.{question_view}
+use Rattle.decide.specs.{Rules.Holds, Rules.HoldsOf, View.account_asked}
 use Rattle.desk.specs.WaitingStamps.{with_waiting}
+use Rattle.desk.specs.{Calls.settings_view, Facts.facts_of, Findings.HoldsUnasked, Together.question_view}
 use Rattle.desk.specs.declared.refusal.StampRefusal.TheVariants as refusal
-use Rattle.desk.proofs.stamps.BatchJudgement.{judged_err}
-use Rattle.desk.proofs.journeys.Headline.{one_first}
 use Rattle.desk.proofs.stamps.Judgement.{unread, unspelled}
+use Rattle.desk.proofs.{stamps.BatchJudgement.judged_err, journeys.Headline.one_first}
 use Rattle.desk.proofs.stamp_start.judge_one.Goals as goal
 
 pub returns-in_default : goal.returns-in_default

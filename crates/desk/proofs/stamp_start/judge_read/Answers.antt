@@ -1,12 +1,8 @@
-use Rattle.std.proofs.Common.{sym, subst, inl}
+use Rattle.std.proofs.{Common.sym, Common.subst, Common.inl, lemmas.Result.err_from_is_err_and}
 use Rattle.std.specs.Prelude.{IfSome, IfOk}
-use Rattle.std.proofs.lemmas.Result.{err_from_is_err_and}
 use Rattle.tsp.specs.Request.{Spells}
-use Rattle.desk.specs.auxiliary.Beginnings.{WaitsFor}
-use Rattle.desk.specs.Calls.{settings_view, plan_of, refused, why_of}
-use Rattle.desk.specs.Effects.{name_of}
-use Rattle.desk.specs.Together.{question_with}
-use Rattle.desk.specs.WaitingStamps.{with_waiting}
+use Rattle.desk.specs.{auxiliary.Beginnings.WaitsFor, Calls.settings_view, Calls.plan_of, Calls.refused, Calls.why_of}
+use Rattle.desk.specs.{Effects.name_of, Together.question_with, WaitingStamps.with_waiting}
 use Rattle.desk.proofs.stamps.BatchJudgement.{judged_err, judged_planned, found_settled}
 use Rattle.desk.proofs.stamp_start.judge_read.Goals as goal
 

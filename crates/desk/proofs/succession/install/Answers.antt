@@ -1,5 +1,4 @@
-use Rattle.std.proofs.Common.{sym, ◌∙◌}
-use Rattle.std.proofs.lemmas.Result.{err_from_is_err_and}
+use Rattle.std.proofs.{Common.sym, Common.◌∙◌, lemmas.Result.err_from_is_err_and}
 use Rattle.desk.specs.Calls.{in_force_of}
 use Rattle.desk.specs.declared.obstacle.Obstacle.TheVariants as obstacle
 use Rattle.desk.proofs.calls.Successions.{succeeded_already, unlooked, addition_told}

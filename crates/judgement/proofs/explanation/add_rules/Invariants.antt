@@ -2,8 +2,7 @@
 use Rattle.std.proofs.Common.{◌≡◌, ◌++◌, take}
 use Rattle.std.specs.List.{flat_map}
 use Rattle.book.specs.Values.{stamp_view}
-use Rattle.judgement.specs.Explanation.{rule_line, rules}
-use Rattle.judgement.specs.View.{evidence_view}
+use Rattle.judgement.specs.{Explanation.rule_line, Explanation.rules, View.evidence_view}
 use Rattle.judgement.proofs.explanation.add_rules.Given as goal
 
 abbrev pub invariant-loop-rule : goal.invariant-loop-rule

@@ -1,12 +1,10 @@
 use Rattle.std.proofs.Common.{◌∙◌, ◌++◌, ap, codes, option_map, subst}
 use Rattle.std.specs.List.{flat_map}
-use Rattle.book.specs.Identities.{identity_before}
-use Rattle.book.specs.Values.{stamp_view}
+use Rattle.book.specs.{Identities.identity_before, Values.stamp_view}
 use Rattle.tsp.specs.View.{request_view}
 use Rattle.judgement.specs.Explanation.{IsRequestOf, IsSubjectOf, clock_lines, named, row_lines, rule_line, rules}
 use Rattle.judgement.specs.Explanation.{signing_lines, verdict_text}
-use Rattle.judgement.specs.Readings.{ComesFurthest, unheld}
-use Rattle.judgement.specs.View.{evidence_view}
+use Rattle.judgement.specs.{Readings.ComesFurthest, Readings.unheld, View.evidence_view}
 use Rattle.judgement.proofs.Explaining.{five_lines}
 use Rattle.judgement.proofs.explanation.explain.Goals as goal
 

@@ -1,11 +1,9 @@
 use Rattle.std.proofs.Common.{◌≡◌, ◌%◌, ℤ, Some, map, option_map, rules, arith, w64, SFits, to_z-of_z, sym, ap, ◌∙◌}
-use Rattle.std.proofs.Common.{subst}
-use Rattle.std.proofs.lemmas.Int.{ints}
+use Rattle.std.proofs.{Common.subst, lemmas.Int.ints}
 use Rattle.std.specs.Prelude.{◌≤ℤ◌, IfSome, pos}
 use Rattle.decide.specs.Clock.{step}
 use Rattle.policy.specs.View.{counter_view}
-use Rattle.book.specs.Sound.{greatest_number}
-use Rattle.book.specs.Values.{calibration_view, hold_view}
+use Rattle.book.specs.{Sound.greatest_number, Values.calibration_view, Values.hold_view}
 use Rattle.judgement.specs.auxiliary.Search.{IsFirstReading}
 use Rattle.judgement.proofs.Clocks.{first_is, is_multiple}
 use Rattle.judgement.proofs.readings.first_reading.Goals as goal

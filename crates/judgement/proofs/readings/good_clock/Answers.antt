@@ -1,6 +1,5 @@
 use Rattle.book.specs.Values.{calibration_view}
-use Rattle.judgement.specs.auxiliary.Search.{IsGoodUnder}
-use Rattle.judgement.specs.View.{evidence_view}
+use Rattle.judgement.specs.{auxiliary.Search.IsGoodUnder, View.evidence_view}
 use Rattle.judgement.proofs.Clocks.{some_of_suffix}
 use Rattle.judgement.proofs.readings.good_clock.Goals as goal
 

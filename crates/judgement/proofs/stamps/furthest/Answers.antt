@@ -1,7 +1,5 @@
 use Rattle.std.proofs.Common.{Some, None, subst}
-use Rattle.judgement.specs.Readings.{EvidenceValue, unheld}
-use Rattle.judgement.specs.auxiliary.Search.{IsGoodClock}
-use Rattle.judgement.specs.View.{evidence_view}
+use Rattle.judgement.specs.{Readings.EvidenceValue, Readings.unheld, auxiliary.Search.IsGoodClock, View.evidence_view}
 use Rattle.judgement.proofs.Judging.{found_furthest, none_furthest}
 use Rattle.judgement.proofs.stamps.furthest.Goals as goal
 

@@ -1,11 +1,9 @@
 use Rattle.std.proofs.Common.{◌≤◌, ◌∙◌, ℕ, List, length, sym, ap, subst}
 use Rattle.policy.specs.LookUp.{account_named}
-use Rattle.tsp.specs.Request.{Spells}
-use Rattle.tsp.specs.View.{request_view}
+use Rattle.tsp.specs.{Request.Spells, View.request_view}
 use Rattle.book.specs.Values.{stamp_view}
 use Rattle.decide.specs.Verdict.{IsVerdict, Denied}
-use Rattle.judgement.specs.Readings.{unheld}
-use Rattle.judgement.specs.View.{evidence_view}
+use Rattle.judgement.specs.{Readings.unheld, View.evidence_view}
 use Rattle.judgement.proofs.Judging.{fails_furthest, fails_spelling}
 use Rattle.judgement.proofs.stamps.judge.Goals as goal
 

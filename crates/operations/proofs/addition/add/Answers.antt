@@ -1,5 +1,4 @@
-use Rattle.std.proofs.Common.{ℕ}
-use Rattle.std.proofs.lemmas.Result.{err_from_is_err_and}
+use Rattle.std.proofs.{Common.ℕ, lemmas.Result.err_from_is_err_and}
 use Rattle.operations.proofs.InDatabases.{not_backwards}
 use Rattle.operations.proofs.addition.add.Goals as goal
 

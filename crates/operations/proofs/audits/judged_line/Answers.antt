@@ -1,5 +1,4 @@
-use Rattle.std.proofs.Common.{◌∙◌, append_assoc, append-nil}
-use Rattle.std.proofs.lemmas.Result.{IfOk-weaker}
+use Rattle.std.proofs.{Common.◌∙◌, Common.append_assoc, Common.append-nil, lemmas.Result.IfOk-weaker}
 use Rattle.operations.proofs.audits.judged_line.Goals as goal
 
 pub returns : goal.returns

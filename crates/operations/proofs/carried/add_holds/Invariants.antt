@@ -1,7 +1,6 @@
 -- The holds before this one are added.
 use Rattle.std.proofs.Common.{◌≡◌, ◌++◌, map, take}
-use Rattle.book.specs.Entries.{entries_view}
-use Rattle.book.specs.Values.{hold_view}
+use Rattle.book.specs.{Entries.entries_view, Values.hold_view}
 use Rattle.operations.specs.Continuation.{entries_of_holds}
 use Rattle.operations.proofs.carried.add_holds.Given as goal
 

@@ -1,6 +1,5 @@
 use Rattle.std.proofs.Common.{◌≡◌, ◌∙◌, Err, Ok, ap, map, reverse}
-use Rattle.book.specs.History.{holds}
-use Rattle.book.specs.Values.{hold_view}
+use Rattle.book.specs.{History.holds, Values.hold_view}
 use Rattle.operations.proofs.GoingOn.{closes_as, fails_as, known_from, storage_fault}
 use Rattle.operations.proofs.continuation.carry.Goals as goal
 

@@ -1,9 +1,7 @@
 use Rattle.std.proofs.Common.{◌∙◌, sym, rules, tests}
-use Rattle.std.proofs.lemmas.Iterator.{YieldsList-from_slice}
-use Rattle.std.proofs.lemmas.Iterator.Search.{any_from_yields_List}
+use Rattle.std.proofs.{lemmas.Iterator.YieldsList-from_slice, lemmas.Iterator.Search.any_from_yields_List}
 use Rattle.policy.proofs.Searches.{any_value}
-use Rattle.book.specs.Continuation.{holds_all}
-use Rattle.book.specs.Values.{hold_view}
+use Rattle.book.specs.{Continuation.holds_all, Values.hold_view}
 use Rattle.operations.proofs.continuation.is_closed.Goals as goal
 
 pub returns : goal.returns

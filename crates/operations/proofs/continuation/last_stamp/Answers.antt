@@ -1,5 +1,4 @@
-use Rattle.std.proofs.Common.{ap}
-use Rattle.std.proofs.lemmas.Result.{IfOk-weaker}
+use Rattle.std.proofs.{Common.ap, lemmas.Result.IfOk-weaker}
 use Rattle.book.specs.declared.values.Last.{Last}
 use Rattle.operations.proofs.GoingOn.{last_found}
 use Rattle.operations.proofs.continuation.last_stamp.Goals as goal

@@ -1,5 +1,4 @@
-use Rattle.std.proofs.Common.{inl}
-use Rattle.std.proofs.lemmas.Result.{err_from_is_err_and}
+use Rattle.std.proofs.{Common.inl, lemmas.Result.err_from_is_err_and}
 use Rattle.operations.proofs.InDatabases.{answered_in, refused_in}
 use Rattle.operations.proofs.desk_operation.perform_at_desk.Goals as goal
 

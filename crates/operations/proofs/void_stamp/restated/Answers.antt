@@ -1,8 +1,6 @@
 use Rattle.std.proofs.Common.{◌≤◌, ◌∙◌, None, ap, inl, inr, length, sym, subst, arith}
 use Rattle.der.specs.Node.{encoding, IsLawful}
-use Rattle.tsp.specs.Request.{Spells}
-use Rattle.tsp.specs.Tst.{SpellsTst, tst_info}
-use Rattle.tsp.specs.View.{request_view, tst_view}
+use Rattle.tsp.specs.{Request.Spells, Tst.SpellsTst, Tst.tst_info, View.request_view, View.tst_view}
 use Rattle.operations.proofs.void_stamp.restated.Goals as goal
 
 pub write_tst-requires-clause-lawful : goal.write_tst-requires-clause-lawful

@@ -1,7 +1,6 @@
 -- The lines of those before.
 use Rattle.std.proofs.Common.{◌≡◌, take, map}
-use Rattle.std.specs.List.{flat_map}
-use Rattle.std.specs.Prelude.{string_bytes}
+use Rattle.std.specs.{List.flat_map, Prelude.string_bytes}
 use Rattle.policy.specs.View.{extension_view}
 use Rattle.service.specs.Accounts.{extension_line}
 use Rattle.service.proofs.account.extension_lines.Given as goal

@@ -1,7 +1,6 @@
 use Rattle.std.proofs.Common.{◌∙◌, sym, string_bytes, rules, tests}
+use Rattle.std.proofs.{lemmas.Iterator.YieldsList-from_slice, lemmas.Iterator.Search.any_from_yields_List}
 use Rattle.std.specs.Str.{bytes_eq}
-use Rattle.std.proofs.lemmas.Iterator.{YieldsList-from_slice}
-use Rattle.std.proofs.lemmas.Iterator.Search.{any_from_yields_List}
 use Rattle.policy.proofs.Searches.{any_value}
 use Rattle.service.proofs.account.has_name.Goals as goal
 

@@ -1,7 +1,6 @@
 -- The lines of the policies before.
 use Rattle.std.proofs.Common.{◌≡◌, take, map}
-use Rattle.std.specs.List.{flat_map}
-use Rattle.std.specs.Prelude.{string_bytes}
+use Rattle.std.specs.{List.flat_map, Prelude.string_bytes}
 use Rattle.policy.specs.View.{policy_view}
 use Rattle.service.specs.Accounts.{named_policy_lines}
 use Rattle.service.proofs.account.policies_lines.Given as goal

@@ -1,8 +1,6 @@
 use Rattle.std.proofs.Common.{◌∙◌, SFits, w64, to_z-of_z, to_z, of_z, ap, refl, rules}
 use Rattle.policy.specs.View.{account_view, policy_view}
-use Rattle.service.specs.Answers.{unavailable}
-use Rattle.service.specs.Reports.{wants}
-use Rattle.service.specs.Views.{seen_at}
+use Rattle.service.specs.{Answers.unavailable, Reports.wants, Views.seen_at}
 use Rattle.service.proofs.AccountLemmas.{account_told}
 use Rattle.service.proofs.account.serve_account.Goals as goal
 

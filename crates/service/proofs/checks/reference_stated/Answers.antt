@@ -1,20 +1,10 @@
 use Rattle.std.proofs.Common.{◌≡◌, ◌∙◌, ℕ, ◌<◌, List, Result, Ok, Err, Bor, ap, arith, true, get_or, length}
-use Rattle.std.proofs.Common.{refl, subst, sym}
-use Rattle.std.proofs.Common.{inl, inr}
 use Rattle.std.proofs.lemmas.Bool.{cases_lt, and_parts}
-use Rattle.std.proofs.lemmas.Bool.Decides.{nat_tests}
-use Rattle.std.proofs.lemmas.List.{get_or_past}
-use Rattle.std.proofs.lemmas.List.Sums.{AllPass-from_list_all}
-use Rattle.std.proofs.lemmas.Str.{IsUtf8-from_ascii}
-use Rattle.std.specs.List.{list_all}
-use Rattle.std.specs.Prelude.{MatchResult, codes}
-use Rattle.std.specs.Result.{IsErrAnd}
-use Rattle.std.specs.Str.{IsUtf8}
-use Rattle.service.specs.Checks.{◌>>=◌, check, once}
-use Rattle.service.specs.Fields.{stated}
-use Rattle.service.specs.Numbers.{is_reference, is_reference_octet}
-use Rattle.service.specs.Views.{head_view, octets_given}
-use Rattle.service.specs.declared.refusal.Refusal.{Refusal}
+use Rattle.std.proofs.{Common.refl, Common.subst, Common.sym, Common.inl, Common.inr, lemmas.Bool.Decides.nat_tests}
+use Rattle.std.proofs.{lemmas.List.get_or_past, lemmas.List.Sums.AllPass-from_list_all, lemmas.Str.IsUtf8-from_ascii}
+use Rattle.std.specs.{List.list_all, Prelude.MatchResult, Prelude.codes, Result.IsErrAnd, Str.IsUtf8}
+use Rattle.service.specs.{Fields.stated, Views.head_view, Views.octets_given, declared.refusal.Refusal.Refusal}
+use Rattle.service.specs.{Checks.◌>>=◌, Checks.check, Checks.once, Numbers.is_reference, Numbers.is_reference_octet}
 use Rattle.service.specs.declared.refusal.Refusal.TheVariants as refusal
 use Rattle.service.proofs.checks.reference_stated.Goals as goal
 

@@ -1,7 +1,5 @@
 use Rattle.std.proofs.Common.{[], SFits, inl, inr, refl, rules, subst, to_z-of_z, w64}
-use Rattle.service.specs.Known.{IsDue}
-use Rattle.service.specs.Requests.{asked_by}
-use Rattle.service.specs.Views.{head_view}
+use Rattle.service.specs.{Known.IsDue, Requests.asked_by, Views.head_view}
 use Rattle.service.proofs.ServingLemmas.{answerable, closing, refusing_due}
 use Rattle.service.proofs.exchange.give.Goals as goal
 

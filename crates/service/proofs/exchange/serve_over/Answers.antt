@@ -1,13 +1,9 @@
 use Rattle.std.proofs.Common.{◌≡◌, ◌∙◌, List, [], ℕ, ap, arith, inl, inr, length, refl, rules, subst, sym, take, true}
-use Rattle.std.proofs.Common.{false}
-use Rattle.std.proofs.Common.{SFits, w64, to_z-of_z}
-use Rattle.std.proofs.KnownBytes.{Consumes-nil, Consumes-trans}
-use Rattle.std.proofs.lemmas.List.{append-nil, take_all}
+use Rattle.std.proofs.{Common.false, Common.SFits, Common.w64, Common.to_z-of_z, KnownBytes.Consumes-nil}
+use Rattle.std.proofs.{KnownBytes.Consumes-trans, lemmas.List.append-nil, lemmas.List.take_all}
 use Rattle.std.specs.Io.KnownBytes.{Consumes}
-use Rattle.service.specs.Received.{is_open}
-use Rattle.service.specs.Requests.{nothing}
-use Rattle.service.proofs.RequestLemmas.{open_parts}
-use Rattle.service.proofs.ServingLemmas.{failing, wanting_early}
+use Rattle.service.specs.{Received.is_open, Requests.nothing}
+use Rattle.service.proofs.{RequestLemmas.open_parts, ServingLemmas.failing, ServingLemmas.wanting_early}
 use Rattle.service.proofs.exchange.serve_over.Goals as goal
 
 pub returns-in_default-clause-served : goal.returns-in_default-clause-served

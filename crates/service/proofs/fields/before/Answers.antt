@@ -1,8 +1,6 @@
 use Rattle.std.proofs.Common.{◌≡◌, ℕ, length, take, arith, sym, ap, ◌∙◌, eq-eqb}
-use Rattle.std.proofs.lemmas.List.{take_all}
-use Rattle.std.proofs.lemmas.List.Sums.{position_or_len_is}
-use Rattle.std.specs.List.{position_or_len}
-use Rattle.std.specs.Prelude.{◌==◌}
+use Rattle.std.proofs.{lemmas.List.take_all, lemmas.List.Sums.position_or_len_is}
+use Rattle.std.specs.{List.position_or_len, Prelude.◌==◌}
 use Rattle.service.proofs.fields.before.Goals as goal
 
 pub returns-then-octet-end : goal.returns-then-octet-end

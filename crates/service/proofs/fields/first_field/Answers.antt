@@ -1,9 +1,7 @@
 use Rattle.std.proofs.Common.{◌≡◌, ℕ, ◌+◌, List, ◌∷◌, drop, map, true, false, cond, get_or}
-use Rattle.std.proofs.Common.{sym, ap, ◌∙◌}
+use Rattle.std.proofs.{Common.sym, Common.ap, Common.◌∙◌, lemmas.List.at_drop_more, lemmas.List.take_rest}
 use Rattle.std.specs.Prelude.{filter}
-use Rattle.std.proofs.lemmas.List.{at_drop_more, take_rest}
-use Rattle.httparse.specs.Spans.{header_bytes}
-use Rattle.httparse.specs.declared.spans.HeaderSpan.{HeaderSpan}
+use Rattle.httparse.specs.{Spans.header_bytes, declared.spans.HeaderSpan.HeaderSpan}
 use Rattle.service.specs.Fields.{same_letters, values}
 use Rattle.service.proofs.fields.first_field.Goals as goal
 

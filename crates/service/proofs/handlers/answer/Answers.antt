@@ -1,13 +1,9 @@
 use Rattle.std.proofs.Common.{inl, inr, refl, rules, SFits, to_z-of_z, w64}
 use Rattle.policy.specs.View.{account_view}
 use Rattle.book.specs.Values.{calibration_view, hold_view}
-use Rattle.desk.specs.Answers.{answered, entered, reply_as}
-use Rattle.desk.specs.Batches.{stamp_for}
-use Rattle.desk.specs.Command.{Calibrate, Deposit, Hold}
-use Rattle.desk.specs.Shown.{deposited_as}
-use Rattle.desk.specs.Together.{question_view}
-use Rattle.service.specs.Requests.{OfAccount, Status}
-use Rattle.service.specs.Views.{added_answer}
+use Rattle.desk.specs.{Answers.answered, Answers.entered, Answers.reply_as, Batches.stamp_for, Command.Calibrate}
+use Rattle.desk.specs.{Command.Deposit, Command.Hold, Shown.deposited_as, Together.question_view}
+use Rattle.service.specs.{Requests.OfAccount, Requests.Status, Views.added_answer}
 use Rattle.service.proofs.HandledLemmas.{extracted, reported, told, told_plainly}
 use Rattle.service.proofs.Operators.{calibration_told, hold_told}
 use Rattle.service.proofs.handlers.answer.Goals as goal

@@ -1,6 +1,5 @@
 use Rattle.std.proofs.Common.{List, All, length, subst, sym}
-use Rattle.httparse.specs.Spans.{IsHeaderWithin}
-use Rattle.httparse.specs.declared.spans.HeaderSpan.{HeaderSpan}
+use Rattle.httparse.specs.{Spans.IsHeaderWithin, declared.spans.HeaderSpan.HeaderSpan}
 use Rattle.service.proofs.KnownLemmas.{within_more}
 use Rattle.service.proofs.head.head_in.Goals as goal
 

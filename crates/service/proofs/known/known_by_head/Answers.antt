@@ -1,8 +1,6 @@
 use Rattle.std.proofs.Common.{◌≡◌, ◌∙◌, ap, sym}
-use Rattle.service.specs.Checks.{wanted_by}
-use Rattle.service.specs.Heads.{head_value}
 use Rattle.service.specs.Received.{ends_with_body, has_no_body}
-use Rattle.service.specs.Views.{head_view, wanted_view}
+use Rattle.service.specs.{Checks.wanted_by, Heads.head_value, Views.head_view, Views.wanted_view}
 use Rattle.service.proofs.KnownLemmas.{parsed_now, refused_now}
 use Rattle.service.proofs.known.known_by_head.Goals as goal
 

@@ -1,6 +1,5 @@
 use Rattle.std.proofs.Common.{◌∙◌, arith, inr, subst, sym}
-use Rattle.service.specs.Known.{BeginsAt, IsBehind, IsKnown, IsShort}
-use Rattle.service.specs.declared.known.Known.{Known}
+use Rattle.service.specs.{Known.BeginsAt, Known.IsBehind, Known.IsKnown, Known.IsShort, declared.known.Known.Known}
 use Rattle.service.proofs.KnownLemmas.{begins_at, ends_behind, long_at, malformed_at}
 use Rattle.service.proofs.known.known_of.Goals as goal
 

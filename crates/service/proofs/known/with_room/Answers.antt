@@ -1,6 +1,5 @@
 use Rattle.std.proofs.Common.{arith, length-take-le, subst, take}
-use Rattle.service.specs.Known.{IsKnown}
-use Rattle.service.specs.declared.known.Known.{Known}
+use Rattle.service.specs.{Known.IsKnown, declared.known.Known.Known}
 use Rattle.service.proofs.KnownLemmas.{wanting_room}
 use Rattle.service.proofs.known.with_room.Goals as goal
 

@@ -1,15 +1,9 @@
 use Rattle.std.proofs.Common.{◌≡◌, ℕ, ◌+◌, ◌*◌, ◌<◌, ◌≤◌, ◌^◌, List, length, take, get_or, arith, sym}
-use Rattle.std.proofs.Common.{ap, ◌∙◌, add-one, lit<}
-use Rattle.std.proofs.Math.Nat.{pow-suc, pow-le-pow_right}
-use Rattle.std.proofs.lemmas.Bool.Decides.{nat_tests}
-use Rattle.std.proofs.lemmas.Int.Digits.{digits_value_more}
-use Rattle.std.proofs.lemmas.List.Sums.{AllPass-from_list_all}
-use Rattle.std.proofs.lemmas.Str.{digit_value_digit}
-use Rattle.std.specs.Str.Parse.{digits_value}
+use Rattle.std.proofs.{Common.ap, Common.◌∙◌, Common.add-one, Common.lit<, Math.Nat.pow-suc, Math.Nat.pow-le-pow_right}
+use Rattle.std.proofs.{lemmas.Bool.Decides.nat_tests, lemmas.Int.Digits.digits_value_more}
+use Rattle.std.proofs.{lemmas.List.Sums.AllPass-from_list_all, lemmas.Str.digit_value_digit}
 use Rattle.std.specs.Char.{digit_value, is_ascii_digit}
-use Rattle.std.specs.Int.{IsInRange}
-use Rattle.std.specs.List.{list_all}
-use Rattle.std.specs.Prelude.{true}
+use Rattle.std.specs.{Str.Parse.digits_value, Int.IsInRange, List.list_all, Prelude.true}
 use Rattle.service.proofs.numbers.digits_value.Goals as goal
 
 in_range : (c : ℕ) → is_ascii_digit c ≡ true → IsInRange 48 57 c

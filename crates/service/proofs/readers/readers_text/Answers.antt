@@ -1,9 +1,7 @@
 use Rattle.std.proofs.Common.{◌≡◌, ◌∙◌, ◌++◌, cond, is_ok, Some, Result, Ok, Err, ap, map, string_bytes, sym}
-use Rattle.std.specs.List.{flat_map}
-use Rattle.std.specs.Result.{result_ok}
 use Rattle.std.proofs.lemmas.Simd.{map-map}
-use Rattle.policy.specs.Record.{AccountValue, GroupValue}
-use Rattle.policy.specs.View.{account_view, group_view}
+use Rattle.std.specs.{List.flat_map, Result.result_ok}
+use Rattle.policy.specs.{Record.AccountValue, Record.GroupValue, View.account_view, View.group_view}
 use Rattle.book.specs.Readers.{Account, Group}
 use Rattle.service.specs.Readers.{reader_line}
 use Rattle.service.proofs.readers.readers_text.Goals as goal

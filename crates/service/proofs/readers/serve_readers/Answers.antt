@@ -1,8 +1,6 @@
 use Rattle.std.proofs.Common.{◌∙◌, ap, refl}
 use Rattle.policy.specs.View.{account_view}
-use Rattle.service.specs.Answers.{unavailable}
-use Rattle.service.specs.Readers.{readers_text}
-use Rattle.service.specs.Reports.{wants}
+use Rattle.service.specs.{Answers.unavailable, Readers.readers_text, Reports.wants}
 use Rattle.service.proofs.ReadersTold.{hidden_told, readers_told}
 use Rattle.service.proofs.readers.serve_readers.Goals as goal
 

@@ -1,13 +1,9 @@
 use Rattle.std.proofs.Common.{◌≡◌, ◌∙◌, ℕ, ◌+◌, ◌-◌, ◌≤◌, List, ◌++◌, Result, Ok, Err, arith, length, take}
-use Rattle.std.proofs.Common.{slice_range, sym}
 use Rattle.std.proofs.Common.{ap, le_refl, drop_at, length-take-le, refl, subst}
-use Rattle.std.proofs.lemmas.Slice.{take-put_mid_below}
+use Rattle.std.proofs.{Common.slice_range, Common.sym, lemmas.Slice.take-put_mid_below}
 use borrow.Rule.Slice.PartMut.{put_mid, post_of}
 use lib.Seq.{take-add, take-append-le}
-use Rattle.std.specs.Io.{ReadsAtMost}
-use Rattle.std.specs.Io.KnownBytes.{ReadConsumes}
-use Rattle.std.specs.Prelude.{IfOk, MatchResult}
-use Rattle.std.specs.Result.{IsErrAnd}
+use Rattle.std.specs.{Io.ReadsAtMost, Io.KnownBytes.ReadConsumes, Prelude.IfOk, Prelude.MatchResult, Result.IsErrAnd}
 use Rattle.service.specs.Known.{Fills}
 use Rattle.service.proofs.request.read_behind.Goals as goal
 

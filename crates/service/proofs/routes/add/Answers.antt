@@ -1,10 +1,7 @@
 use Rattle.std.proofs.Common.{◌≡◌, Result, Ok, Err}
 use Rattle.std.specs.Prelude.{OnOk}
-use Rattle.matchit.specs.Route.{Scan, parse_route}
-use Rattle.matchit.specs.Router.{InsertsRead}
-use Rattle.matchit.specs.declared.error.InsertError.{InsertError}
-use Rattle.service.specs.Routes.{Routes, joined}
-use Rattle.service.specs.declared.routes.Methods.{Methods}
+use Rattle.matchit.specs.{Route.Scan, Route.parse_route, Router.InsertsRead, declared.error.InsertError.InsertError}
+use Rattle.service.specs.{Routes.Routes, Routes.joined, declared.routes.Methods.Methods}
 use Rattle.service.proofs.routes.add.Goals as goal
 
 is_joined : (parsed : Result Scan InsertError) (m : Methods) (old new : Routes) (r : Result (Unit {0}) InsertError)

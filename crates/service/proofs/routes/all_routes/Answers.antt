@@ -1,6 +1,5 @@
 use Rattle.std.proofs.Common.{◌≡◌, ◌∙◌, ◌+◌, ◌<◌, ℕ, List, [], ◌∷◌, Bor, get_or, length, map, take, sym, ap, arith}
-use Rattle.std.proofs.lemmas.List.{map-append, take_all, take_more}
-use Rattle.std.proofs.lemmas.List.Sums.{fold_push}
+use Rattle.std.proofs.{lemmas.List.map-append, lemmas.List.take_all, lemmas.List.take_more, lemmas.List.Sums.fold_push}
 use Rattle.service.specs.Routes.{Routes, line_view, routes, routes_of, with_route}
 use Rattle.service.specs.declared.routes.Methods.{Methods}
 use Rattle.service.proofs.routes.all_routes.Goals as goal

@@ -1,7 +1,6 @@
 use Rattle.std.proofs.Common.{◌≡◌, ◌∙◌, ℕ, List, [], Option, Some, None, Bor, ap, arith, sym}
+use Rattle.std.proofs.{lemmas.Iterator.Consumers.nth_from_yields_List, lemmas.Iterator.Splits.YieldsList-from_str_split}
 use Rattle.std.specs.Prelude.{option_map, slice_get, unwrap_or}
-use Rattle.std.proofs.lemmas.Iterator.Consumers.{nth_from_yields_List}
-use Rattle.std.proofs.lemmas.Iterator.Splits.{YieldsList-from_str_split}
 use Rattle.service.specs.Routes.{segment, segments}
 use Rattle.service.proofs.routes.segment.Goals as goal
 

@@ -1,9 +1,6 @@
 use Rattle.std.proofs.Common.{◌∙◌, ℕ, List, refl, SFits, w64, to_z-of_z, to_z, of_z, rules, sym, ap, subst}
 use Rattle.policy.specs.View.{counter_view}
-use Rattle.service.specs.Answers.{unavailable}
-use Rattle.service.specs.Reports.{wants}
-use Rattle.service.specs.Status.{IsStatusText}
-use Rattle.service.specs.Views.{seen_at}
+use Rattle.service.specs.{Answers.unavailable, Reports.wants, Status.IsStatusText, Views.seen_at}
 use Rattle.service.proofs.Operators.{status_told}
 use Rattle.service.proofs.status.serve_status.Goals as goal
 

@@ -1,6 +1,5 @@
 use Rattle.std.proofs.Common.{◌≡◌, ◌∙◌, ℕ, ◌+◌, ◌≤◌, List, ◌++◌, length, take, ap, arith, subst, sym}
-use Rattle.std.proofs.KnownBytes.{Appends-trans}
-use Rattle.std.proofs.lemmas.List.{take_all}
+use Rattle.std.proofs.{KnownBytes.Appends-trans, lemmas.List.take_all}
 use Rattle.std.specs.Io.KnownBytes.{Appends}
 use Rattle.service.proofs.Joined.{front_of_joined}
 use Rattle.service.proofs.writes.write_both.Goals as goal

@@ -1,6 +1,5 @@
 use Rattle.std.proofs.Common.{◌++◌, take, ap, ◌∙◌, sym, append_assoc}
-use Rattle.std.proofs.lemmas.List.{take-append-drop}
-use Rattle.std.proofs.KnownBytes.{Appends-trans}
+use Rattle.std.proofs.{lemmas.List.take-append-drop, KnownBytes.Appends-trans}
 use Rattle.sessions.proofs.key_holder.write_line.Goals as goal
 
 -- what was taken goes from the rest to what was appended

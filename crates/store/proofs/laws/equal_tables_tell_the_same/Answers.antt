@@ -1,6 +1,4 @@
-use Rattle.store.proofs.Words.{subst₂, sym}
-use Rattle.store.proofs.Alike.{alike}
-use Rattle.store.proofs.Replayed.{replayed_is}
+use Rattle.store.proofs.{Words.subst₂, Words.sym, Alike.alike, Replayed.replayed_is}
 use Rattle.store.specs.Alike.{HaveSameRows}
 use Rattle.store.proofs.laws.equal_tables_tell_the_same.Goals as goal
 

@@ -1,5 +1,4 @@
-use Rattle.store.proofs.Words.{arith, reservations}
-use Rattle.store.proofs.Alike.{not_above}
+use Rattle.store.proofs.{Words.arith, Words.reservations, Alike.not_above}
 use Rattle.store.proofs.laws.serials_rise.Goals as goal
 
 pub returns-clause-greatest : goal.returns-clause-greatest

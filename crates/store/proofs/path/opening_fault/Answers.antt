@@ -1,5 +1,4 @@
-use Rattle.store.proofs.Words.{refl, sym, ◌∙◌}
-use Rattle.store.proofs.Migration.{told_not_ours}
+use Rattle.store.proofs.{Words.refl, Words.sym, Words.◌∙◌, Migration.told_not_ours}
 use Rattle.store.proofs.path.opening_fault.Goals as goal
 
 pub returns-clause-none : goal.returns-clause-none

@@ -1,10 +1,6 @@
-use Rattle.tables.proofs.Words.{calibration_view, refl, ◌+◌}
-use Rattle.tables.specs.Changes.{calibration_row, greatest_by}
-use Rattle.tables.specs.Tables.{with_calibration}
-use Rattle.tables.proofs.CellLemmas.{value_more}
-use Rattle.tables.proofs.InsertLemmas.{adds_calibration}
-use Rattle.tables.proofs.Lookups.{finds_latest_calibration}
-use Rattle.tables.proofs.NumberLemmas.{number_is, numbered}
+use Rattle.tables.proofs.{CellLemmas.value_more, InsertLemmas.adds_calibration, Lookups.finds_latest_calibration}
+use Rattle.tables.proofs.{Words.calibration_view, Words.refl, Words.◌+◌, NumberLemmas.number_is, NumberLemmas.numbered}
+use Rattle.tables.specs.{Changes.calibration_row, Changes.greatest_by, Tables.with_calibration}
 use Rattle.tables.proofs.calibrations.put_calibration.Goals as goal
 
 pub number_in-requires : goal.number_in-requires

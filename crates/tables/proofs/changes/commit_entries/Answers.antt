@@ -1,7 +1,5 @@
-use Rattle.tables.proofs.Words.{entries_view, rules, state, subst, ◌≡◌}
-use Rattle.tables.specs.Changes.{applied_all}
-use Rattle.tables.specs.Transaction.{Commits, IsSoundOf}
-use Rattle.tables.proofs.CommitLemmas.{committed}
+use Rattle.tables.proofs.{Words.entries_view, Words.rules, Words.state, Words.subst, Words.◌≡◌, CommitLemmas.committed}
+use Rattle.tables.specs.{Changes.applied_all, Transaction.Commits, Transaction.IsSoundOf}
 use Rattle.tables.proofs.changes.commit_entries.Goals as goal
 
 pub returns-clause-commits : goal.returns-clause-commits

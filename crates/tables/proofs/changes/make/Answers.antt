@@ -1,8 +1,6 @@
-use Rattle.tables.proofs.Words.{ap, day_of, reader_view}
+use Rattle.tables.proofs.{Words.ap, Words.day_of, Words.reader_view, AnswerLemmas.refused_carries, CountLemmas.chained}
+use Rattle.tables.proofs.{CountLemmas.reworded, RightLemmas.right_given}
 use Rattle.tables.specs.auxiliary.Steps.{with_count}
-use Rattle.tables.proofs.AnswerLemmas.{refused_carries}
-use Rattle.tables.proofs.CountLemmas.{chained, reworded}
-use Rattle.tables.proofs.RightLemmas.{right_given}
 use Rattle.tables.proofs.changes.make.Goals as goal
 
 pub returns-in_ok-put_stamp-in-Reserved-clause-carries : goal.returns-in_ok-put_stamp-in-Reserved-clause-carries

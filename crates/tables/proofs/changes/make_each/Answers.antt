@@ -1,7 +1,6 @@
 use Rattle.tables.proofs.Words.{entries_view, err_from_is_err_and, refl, state, subst, sym, ◌∙◌}
-use Rattle.tables.specs.Changes.{applied_all}
-use Rattle.tables.specs.Transaction.{Carries}
 use Rattle.tables.proofs.EachLemmas.{made_next, made_none, made_whole, refused_next}
+use Rattle.tables.specs.{Changes.applied_all, Transaction.Carries}
 use Rattle.tables.proofs.changes.make_each.Goals as goal
 
 pub loop-entry-init : goal.loop-entry-init

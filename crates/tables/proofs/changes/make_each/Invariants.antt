@@ -1,5 +1,4 @@
-use Rattle.tables.proofs.Words.{state, ◌≡◌}
-use Rattle.tables.proofs.EachLemmas.{MadeSome}
+use Rattle.tables.proofs.{Words.state, Words.◌≡◌, EachLemmas.MadeSome}
 use Rattle.tables.proofs.changes.make_each.Given as goal
 
 abbrev pub invariant-loop-entry : goal.invariant-loop-entry

@@ -1,5 +1,4 @@
-use Rattle.tables.proofs.CreateLemmas.{all_carried}
-use Rattle.tables.proofs.RefusalLemmas.{in_the_way, names_free_if}
+use Rattle.tables.proofs.{CreateLemmas.all_carried, RefusalLemmas.in_the_way, RefusalLemmas.names_free_if}
 use Rattle.tables.proofs.creation.make_all.Goals as goal
 
 pub returns-clause-carries : goal.returns-clause-carries

@@ -1,5 +1,4 @@
-use Rattle.tables.proofs.Words.{sym, ◌∙◌}
-use Rattle.tables.proofs.EachLemmas.{filled_each, filled_none}
+use Rattle.tables.proofs.{Words.sym, Words.◌∙◌, EachLemmas.filled_each, EachLemmas.filled_none}
 use Rattle.tables.proofs.creation.make_filled.Goals as goal
 
 pub returns-then-is_empty-clause-filled : goal.returns-then-is_empty-clause-filled

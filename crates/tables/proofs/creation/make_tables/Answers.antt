@@ -1,9 +1,6 @@
 use Rattle.tables.proofs.Words.{Database, Err, IsTrue, Ok, entries_view, rules, state, subst, ◌≡◌}
-use Rattle.tables.specs.Changes.{applied_all}
-use Rattle.tables.specs.Schema.{no_schema}
-use Rattle.tables.specs.Tables.{no_rows}
-use Rattle.tables.specs.Versions.{Creates}
 use Rattle.tables.proofs.CommitLemmas.{committed}
+use Rattle.tables.specs.{Changes.applied_all, Schema.no_schema, Tables.no_rows, Versions.Creates}
 use Rattle.tables.proofs.creation.make_tables.Goals as goal
 
 pub returns-in-Ok-commit-clause-made : goal.returns-in-Ok-commit-clause-made

@@ -1,6 +1,4 @@
-use Rattle.tables.proofs.Words.{refl}
-use Rattle.tables.proofs.CellLemmas.{text_more, value_more}
-use Rattle.tables.proofs.InsertLemmas.{adds_deposit}
+use Rattle.tables.proofs.{Words.refl, CellLemmas.text_more, CellLemmas.value_more, InsertLemmas.adds_deposit}
 use Rattle.tables.proofs.deposits.put_deposit.Goals as goal
 
 pub returns-clause-carries : goal.returns-clause-carries

@@ -1,10 +1,6 @@
-use Rattle.tables.proofs.Words.{hold_view, refl, ◌+◌}
-use Rattle.tables.specs.Changes.{greatest_by, hold_row}
-use Rattle.tables.specs.Tables.{with_hold}
-use Rattle.tables.proofs.CellLemmas.{value_more}
-use Rattle.tables.proofs.InsertLemmas.{adds_hold}
-use Rattle.tables.proofs.Lookups.{finds_greatest_hold}
-use Rattle.tables.proofs.NumberLemmas.{number_is, numbered}
+use Rattle.tables.proofs.{Words.hold_view, Words.refl, Words.◌+◌, CellLemmas.value_more, InsertLemmas.adds_hold}
+use Rattle.tables.proofs.{Lookups.finds_greatest_hold, NumberLemmas.number_is, NumberLemmas.numbered}
+use Rattle.tables.specs.{Changes.greatest_by, Changes.hold_row, Tables.with_hold}
 use Rattle.tables.proofs.holds.put_hold.Goals as goal
 
 pub number_in-requires : goal.number_in-requires

@@ -1,10 +1,7 @@
-use Rattle.tables.proofs.Words.{refl, ℕ, ◌+◌}
-use Rattle.tables.specs.Changes.{greatest_by}
-use Rattle.tables.specs.Tables.{InstalledRow, with_identity}
-use Rattle.tables.proofs.CellLemmas.{value_more}
-use Rattle.tables.proofs.InsertLemmas.{adds_identity}
 use Rattle.tables.proofs.Lookups.{finds_greatest_identity, finds_last_stamp}
 use Rattle.tables.proofs.NumberLemmas.{number_is, numbered}
+use Rattle.tables.proofs.{Words.refl, Words.ℕ, Words.◌+◌, CellLemmas.value_more, InsertLemmas.adds_identity}
+use Rattle.tables.specs.{Changes.greatest_by, Tables.InstalledRow, Tables.with_identity}
 use Rattle.tables.proofs.identities.put_identity.Goals as goal
 
 pub number_in-requires : goal.number_in-requires

@@ -1,6 +1,5 @@
-use Rattle.tables.proofs.Words.{err_from_is_err_and}
+use Rattle.tables.proofs.{Words.err_from_is_err_and, MigrateLemmas.leads_nowhere, MigrateLemmas.leads_then}
 use Rattle.tables.specs.Layout.{IsDatabaseOf, IsOnTheWay}
-use Rattle.tables.proofs.MigrateLemmas.{leads_nowhere, leads_then}
 use Rattle.tables.proofs.migration.go_on_from_first.Goals as goal
 
 pub returns-in_err-make_group_readers-clause-leads : goal.returns-in_err-make_group_readers-clause-leads

@@ -1,6 +1,5 @@
-use Rattle.tables.proofs.Words.{inl, refl, state, ◌≡◌, ◌≢◌}
 use Rattle.tables.proofs.MigrateLemmas.{current_migrates, earlier_migrates, earlier_ours, earlier_refused}
-use Rattle.tables.proofs.MigrateLemmas.{refused_migrates}
+use Rattle.tables.proofs.{Words.inl, Words.refl, Words.state, Words.◌≡◌, Words.◌≢◌, MigrateLemmas.refused_migrates}
 use Rattle.tables.specs.declared.version.Version.TheVariants as version
 use Rattle.tables.proofs.migration.migrate.Goals as goal
 

@@ -1,9 +1,6 @@
 use Rattle.tables.proofs.Words.{HasCleanDisk, arith, err_from_is_err_and, refl, rules, state, subst, sym, ◌≡◌}
-use Rattle.tables.specs.Layout.{IsDatabaseIn}
-use Rattle.tables.specs.Transaction.{CommitsFrom}
-use Rattle.tables.specs.Versions.{number_of}
-use Rattle.tables.proofs.CommitLemmas.{committed}
-use Rattle.tables.proofs.MigrateLemmas.{begins, carried_on}
+use Rattle.tables.proofs.{CommitLemmas.committed, MigrateLemmas.begins, MigrateLemmas.carried_on}
+use Rattle.tables.specs.{Layout.IsDatabaseIn, Transaction.CommitsFrom, Versions.number_of}
 use Rattle.tables.proofs.migration.take_on.Goals as goal
 
 pub returns-clause-commits : goal.returns-clause-commits

@@ -1,6 +1,5 @@
-use Rattle.tables.proofs.Words.{◌∙◌}
 use Rattle.tables.proofs.AnswerLemmas.{no_answer, read_carries, refused_carries}
-use Rattle.tables.proofs.NumberLemmas.{nothing_told, number_told}
+use Rattle.tables.proofs.{Words.◌∙◌, NumberLemmas.nothing_told, NumberLemmas.number_told}
 use Rattle.tables.proofs.queries.number_in.Goals as goal
 
 pub returns-in-Some-clause-carries : goal.returns-in-Some-clause-carries

@@ -1,6 +1,6 @@
 use Rattle.tables.proofs.Words.{[], ap, subst₂, sym, take, take_more, ◌++◌, ◌∙◌, ◌∷◌}
-use Rattle.tables.specs.QueryAnswers.{AreReadAs}
 use Rattle.tables.proofs.FoundLemmas.{read_more}
+use Rattle.tables.specs.QueryAnswers.{AreReadAs}
 use Rattle.tables.proofs.queries.read_all.Goals as goal
 
 pub loop-row-preserved : goal.loop-row-preserved

@@ -1,8 +1,7 @@
 use Rattle.sqlite.specs.declared.error.ErrorCode.TheVariants.{OutOfMemory}
 use Rattle.tables.proofs.Words.{HasCleanDisk, IfErr, IsTrue, OnOk, SqliteFailure, bound, rules, state, subst, ◌≡◌, ◌≢◌}
-use Rattle.tables.specs.QueryAnswers.{IsPlainIn, Looks}
-use Rattle.tables.specs.Versions.{IsUnanswered}
 use Rattle.tables.proofs.AskLemmas.{looked, still_unanswered, was_opened}
+use Rattle.tables.specs.{QueryAnswers.IsPlainIn, QueryAnswers.Looks, Versions.IsUnanswered}
 use Rattle.tables.proofs.queries.rows_of.Goals as goal
 
 pub returns-clause-looks : goal.returns-clause-looks

@@ -1,6 +1,5 @@
-use Rattle.tables.proofs.Words.{reader_view, refl}
 use Rattle.tables.proofs.CellLemmas.{text_more, value_more}
-use Rattle.tables.proofs.RightLemmas.{takes_right}
+use Rattle.tables.proofs.{Words.reader_view, Words.refl, RightLemmas.takes_right}
 use Rattle.tables.proofs.rights.drop_right.Goals as goal
 
 pub returns-clause-carries : goal.returns-clause-carries

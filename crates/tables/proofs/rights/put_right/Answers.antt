@@ -1,6 +1,5 @@
-use Rattle.tables.proofs.Words.{reader_view, refl}
 use Rattle.tables.proofs.CellLemmas.{text_more, value_more}
-use Rattle.tables.proofs.InsertLemmas.{adds_right}
+use Rattle.tables.proofs.{Words.reader_view, Words.refl, InsertLemmas.adds_right}
 use Rattle.tables.proofs.rights.put_right.Goals as goal
 
 pub returns-clause-carries : goal.returns-clause-carries

@@ -1,7 +1,6 @@
 use Rattle.std.specs.Prelude.{pos}
 use Rattle.tables.proofs.Words.{Int, ap, refl, reservation_view, ◌∙◌}
-use Rattle.tables.proofs.CellLemmas.{text_more, value_more}
-use Rattle.tables.proofs.InsertLemmas.{adds_stamp}
+use Rattle.tables.proofs.{CellLemmas.text_more, CellLemmas.value_more, InsertLemmas.adds_stamp}
 use Rattle.tables.proofs.stamps.put_stamp.Goals as goal
 
 pub returns-clause-carries : goal.returns-clause-carries

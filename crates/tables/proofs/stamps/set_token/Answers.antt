@@ -1,6 +1,4 @@
-use Rattle.tables.proofs.Words.{refl}
-use Rattle.tables.proofs.CellLemmas.{value_more}
-use Rattle.tables.proofs.SealLemmas.{seals}
+use Rattle.tables.proofs.{Words.refl, CellLemmas.value_more, SealLemmas.seals}
 use Rattle.tables.proofs.stamps.set_token.Goals as goal
 
 pub returns-clause-carries : goal.returns-clause-carries

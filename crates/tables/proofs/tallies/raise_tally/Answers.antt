@@ -1,6 +1,5 @@
-use Rattle.tables.proofs.Words.{refl}
 use Rattle.tables.proofs.CellLemmas.{text_more, value_more}
-use Rattle.tables.proofs.SealLemmas.{raise_counts, raises}
+use Rattle.tables.proofs.{Words.refl, SealLemmas.raise_counts, SealLemmas.raises}
 use Rattle.tables.proofs.tallies.raise_tally.Goals as goal
 
 pub returns-clause-carries : goal.returns-clause-carries

@@ -1,7 +1,7 @@
 use Rattle.tables.proofs.Words.{Database, [], err_from_is_err_and, inr, state, subst, sym, ◌∙◌}
-use Rattle.tables.specs.Versions.{IsKnownAs, number_of, version_query}
 use Rattle.tables.proofs.AnswerLemmas.{no_answer, no_success}
 use Rattle.tables.proofs.OpenLemmas.{TellsNumber, known_as, not_said, shown_foreign, unanswered_since}
+use Rattle.tables.specs.Versions.{IsKnownAs, number_of, version_query}
 use Rattle.tables.proofs.version.found_version.Goals as goal
 
 pub returns-in_default-clause-found : goal.returns-in_default-clause-found

@@ -1,6 +1,6 @@
 use Rattle.tables.proofs.Words.{IsTrue, err_from_is_err_and, state, subst, ◌↔◌}
-use Rattle.tables.specs.Versions.{IsVersion}
 use Rattle.tables.proofs.OpenLemmas.{version_plain}
+use Rattle.tables.specs.Versions.{IsVersion}
 use Rattle.tables.proofs.version.has_version.Goals as goal
 
 pub returns-clause-told : goal.returns-clause-told

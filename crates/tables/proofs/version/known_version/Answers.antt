@@ -1,8 +1,7 @@
 use Rattle.tables.proofs.Words.{err_from_is_err_and, state, ◌∙◌}
-use Rattle.tables.specs.Versions.{first_columns, second_columns}
-use Rattle.tables.proofs.AnswerLemmas.{no_answer}
 use Rattle.tables.proofs.OpenLemmas.{told_after, unknown_if, unprepared_since}
-use Rattle.tables.proofs.UsableLemmas.{looks_in_turn}
+use Rattle.tables.proofs.{AnswerLemmas.no_answer, UsableLemmas.looks_in_turn}
+use Rattle.tables.specs.Versions.{first_columns, second_columns}
 use Rattle.tables.specs.declared.version.Version.TheVariants as version
 use Rattle.tables.proofs.version.known_version.Goals as goal
 

@@ -1,6 +1,5 @@
-use Rattle.tables.proofs.Words.{[], refl}
 use Rattle.tables.proofs.OpenLemmas.{outlined, prepare_looks, read_told, read_unprepared}
-use Rattle.tables.proofs.version.understands.Goals.{in-Err, in-Ok}
+use Rattle.tables.proofs.{Words.[], Words.refl, version.understands.Goals.in-Err, version.understands.Goals.in-Ok}
 use Rattle.tables.proofs.version.understands.Goals as goal
 
 pub returns-clause-looks : goal.returns-clause-looks

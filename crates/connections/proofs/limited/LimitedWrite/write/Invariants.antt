@@ -1,6 +1,5 @@
 -- What the stream took is left as it was, and the time goes on.
-use Rattle.std.specs.Prelude.{◌≡◌, IsSome}
-use Rattle.std.specs.Io.KnownBytes.{Keeps}
+use Rattle.std.specs.{Prelude.◌≡◌, Prelude.IsSome, Io.KnownBytes.Keeps}
 use Rattle.connections.proofs.limited.LimitedWrite.write.Given as goal
 
 abbrev pub invariant-loop : goal.invariant-loop

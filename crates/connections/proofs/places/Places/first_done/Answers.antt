@@ -1,5 +1,5 @@
 use Rattle.std.proofs.Common.{rules}
-use Rattle.connections.specs.Waiting.{places_of}
+use Rattle.connections.specs.WaitingConnection.{places_of}
 use Rattle.connections.proofs.PlacesLemmas.{all_still, read_once_more}
 use Rattle.connections.proofs.places.Places.first_done.Goals as goal
 

@@ -1,5 +1,4 @@
-use Rattle.connections.specs.Places.{AreReadOn}
-use Rattle.connections.specs.Waiting.{places_of}
+use Rattle.connections.specs.{Places.AreReadOn, WaitingConnection.places_of}
 use Rattle.connections.proofs.places.Places.first_done.Given as goal
 
 abbrev pub invariant-loop-place : goal.invariant-loop-place

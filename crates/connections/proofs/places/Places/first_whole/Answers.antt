@@ -1,7 +1,6 @@
 use Rattle.std.proofs.Common.{◌∙◌, ◌≤◌, ◌<◌, length, arith, rules, subst}
 use Rattle.std.proofs.lemmas.List.{get_or-set_same, length-map}
-use Rattle.connections.specs.Places.{IsUnfinished}
-use Rattle.connections.specs.Waiting.{place_of, places_of}
+use Rattle.connections.specs.{Places.IsUnfinished, WaitingConnection.place_of, WaitingConnection.places_of}
 use Rattle.connections.proofs.PlacesLemmas.{all_still, none_before, one_more_before, read_once_more}
 use Rattle.connections.proofs.places.Places.first_whole.Goals as goal
 

@@ -1,5 +1,4 @@
-use Rattle.connections.specs.Places.{AreReadOn}
-use Rattle.connections.specs.Waiting.{places_of}
+use Rattle.connections.specs.{Places.AreReadOn, WaitingConnection.places_of}
 use Rattle.connections.proofs.PlacesLemmas.{AreBefore}
 use Rattle.connections.proofs.places.Places.first_whole.Given as goal
 

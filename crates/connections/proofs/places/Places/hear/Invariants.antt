@@ -1,5 +1,5 @@
 use Rattle.std.proofs.Common.{◌≡◌, map}
-use Rattle.connections.specs.Waiting.{place_of, places_of}
+use Rattle.connections.specs.WaitingConnection.{place_of, places_of}
 use Rattle.connections.proofs.places.Places.hear.Given as goal
 
 abbrev pub invariant-loop-one : goal.invariant-loop-one

@@ -1,6 +1,5 @@
-use Rattle.std.proofs.Common.{◌<◌, length, arith}
-use Rattle.std.proofs.lemmas.List.{length-map}
-use Rattle.connections.specs.Waiting.{place_of}
+use Rattle.std.proofs.{Common.◌<◌, Common.length, Common.arith, lemmas.List.length-map}
+use Rattle.connections.specs.WaitingConnection.{place_of}
 use Rattle.connections.proofs.PlacesLemmas.{taken_out}
 use Rattle.connections.proofs.places.Places.remove.Goals as goal
 

@@ -1,7 +1,6 @@
 use Rattle.std.proofs.Common.{◌<◌, length, arith, map, subst, sym}
 use Rattle.std.proofs.lemmas.List.{length-map}
-use Rattle.connections.specs.Places.{GivesWay}
-use Rattle.connections.specs.Waiting.{place_of, places_of}
+use Rattle.connections.specs.{Places.GivesWay, WaitingConnection.place_of, WaitingConnection.places_of}
 use Rattle.connections.proofs.PlacesLemmas.{gives_way}
 use Rattle.connections.proofs.places.Places.replace_first.Goals as goal
 

@@ -1,6 +1,5 @@
 use Rattle.std.specs.Time.{instant_nanos}
-use Rattle.connections.specs.Places.{IsLost, IsWhole}
-use Rattle.connections.specs.Waiting.{place_of}
+use Rattle.connections.specs.{Places.IsLost, Places.IsWhole, WaitingConnection.place_of}
 use Rattle.connections.proofs.PlacesLemmas.{takes_one}
 use Rattle.connections.proofs.places.Places.take_done.Goals as goal
 

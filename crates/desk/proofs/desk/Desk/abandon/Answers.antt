@@ -1,8 +1,5 @@
 use Rattle.std.proofs.Common.{[], Ok, refl, inl}
-use Rattle.desk.specs.Command.{Abandon, Done}
-use Rattle.desk.specs.Effects.{only}
-use Rattle.desk.specs.Outcome.{all_fine}
-use Rattle.desk.specs.CallContract.{no_signer}
+use Rattle.desk.specs.{Command.Abandon, Command.Done, Effects.only, Outcome.all_fine, CallContract.no_signer}
 use Rattle.desk.proofs.calls.Opened.{promised}
 use Rattle.desk.proofs.desk.Desk.abandon.Goals as goal
 

@@ -1,8 +1,6 @@
 use Rattle.std.proofs.Common.{refl, ap, SFits, w64, to_z-of_z, rules}
 use Rattle.decide.specs.View.{account_asked}
-use Rattle.desk.specs.Answers.{reply_as}
-use Rattle.desk.specs.Calls.{settings_view}
-use Rattle.desk.specs.Command.{Stamp}
+use Rattle.desk.specs.{Answers.reply_as, Calls.settings_view, Command.Stamp}
 use Rattle.desk.proofs.calls.Opened.{steps_opened}
 use Rattle.desk.proofs.stamps.StampReplies.{granted_reply, rejected_reply}
 use Rattle.desk.proofs.desk.Desk.answer.Goals as goal

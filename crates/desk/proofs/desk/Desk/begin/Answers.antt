@@ -2,12 +2,8 @@ use Rattle.std.proofs.Common.{[], refl, sym, ap, ◌∙◌, subst, SFits, w64, t
 use Rattle.tsp.specs.Rules.{IsFirstFailing}
 use Rattle.decide.specs.View.{account_asked}
 use Rattle.desk.specs.Answers.{begun_as, answered, ended_as}
-use Rattle.desk.specs.Calls.{outcome_of, settings_view}
-use Rattle.desk.specs.Command.{Begin, Begun}
-use Rattle.desk.specs.Effects.{for_parts}
-use Rattle.desk.specs.Findings.{HoldsUnasked}
-use Rattle.desk.specs.CallContract.{no_signer}
-use Rattle.desk.specs.auxiliary.Wholes.{answer_by}
+use Rattle.desk.specs.{Calls.outcome_of, Calls.settings_view, Command.Begin, Command.Begun, Effects.for_parts}
+use Rattle.desk.specs.{Findings.HoldsUnasked, CallContract.no_signer, auxiliary.Wholes.answer_by}
 use Rattle.desk.proofs.stamps.Beginnings.{begins, begins_steps, begins_refused, begins_unasked}
 use Rattle.desk.proofs.calls.Opened.{steps_opened}
 use Rattle.desk.proofs.desk.Desk.begin.Goals as goal

@@ -1,13 +1,9 @@
 use Rattle.std.proofs.Common.{refl}
 use Rattle.book.specs.Values.{calibration_view}
-use Rattle.desk.specs.Answers.{entered}
-use Rattle.desk.specs.Calls.{settings_view}
-use Rattle.desk.specs.Command.{Calibrate}
 use Rattle.desk.specs.auxiliary.Obstacles.{adding, outcome_with, told_with}
-use Rattle.desk.specs.Shown.{numbered_as}
 use Rattle.desk.specs.CallContract.{no_signer}
-use Rattle.desk.proofs.calls.Entered.{entered_as_told}
-use Rattle.desk.proofs.calls.Opened.{steps_opened}
+use Rattle.desk.specs.{Answers.entered, Calls.settings_view, Command.Calibrate, Shown.numbered_as}
+use Rattle.desk.proofs.{calls.Entered.entered_as_told, calls.Opened.steps_opened}
 use Rattle.desk.proofs.desk.Desk.calibrate.Goals as goal
 
 pub returns-clause-step : goal.returns-clause-step

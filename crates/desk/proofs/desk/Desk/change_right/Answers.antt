@@ -1,8 +1,6 @@
 use Rattle.policy.specs.View.{account_view}
 use Rattle.book.specs.Entries.{reader_view}
-use Rattle.desk.specs.Asked.{right_command}
-use Rattle.desk.specs.Calls.{settings_view}
-use Rattle.desk.specs.Shown.{done_as}
+use Rattle.desk.specs.{Asked.right_command, Calls.settings_view, Shown.done_as}
 use Rattle.desk.proofs.calls.Opened.{right_stays, steps_told}
 use Rattle.desk.proofs.desk.Desk.change_right.Goals as goal
 

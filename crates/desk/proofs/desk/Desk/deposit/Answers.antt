@@ -1,9 +1,6 @@
 use Rattle.std.proofs.Common.{refl, ap, SFits, w64, to_z-of_z, rules}
 use Rattle.policy.specs.View.{account_view}
-use Rattle.desk.specs.Answers.{answered}
-use Rattle.desk.specs.Calls.{settings_view}
-use Rattle.desk.specs.Command.{Deposit}
-use Rattle.desk.specs.Shown.{deposited_as}
+use Rattle.desk.specs.{Answers.answered, Calls.settings_view, Command.Deposit, Shown.deposited_as}
 use Rattle.desk.proofs.calls.Opened.{steps_opened}
 use Rattle.desk.proofs.desk.Desk.deposit.Goals as goal
 

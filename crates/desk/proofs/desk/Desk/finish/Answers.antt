@@ -1,11 +1,7 @@
 use Rattle.std.proofs.Common.{[], Ok, refl, sym, subst}
-use Rattle.desk.specs.Answers.{reply_as, answered}
-use Rattle.desk.specs.Calls.{refused, why_of, settings_view}
-use Rattle.desk.specs.Command.{Answer, Finish, Refused}
-use Rattle.desk.specs.Effects.{fault_by, in_seal}
-use Rattle.desk.specs.Outcome.{all_fine}
-use Rattle.desk.specs.CallContract.{no_signer}
-use Rattle.desk.specs.auxiliary.Wholes.{Ends}
+use Rattle.desk.specs.{Answers.reply_as, Answers.answered, Calls.refused, Calls.why_of, Calls.settings_view}
+use Rattle.desk.specs.{Command.Answer, Command.Finish, Command.Refused, Effects.fault_by, Effects.in_seal}
+use Rattle.desk.specs.{Outcome.all_fine, CallContract.no_signer, auxiliary.Wholes.Ends}
 use Rattle.desk.proofs.stamps.Endings.{finishes, finish_refused}
 use Rattle.desk.proofs.calls.Opened.{steps_opened, refused_as}
 use Rattle.desk.proofs.desk.Desk.finish.Goals as goal

@@ -1,13 +1,8 @@
 use Rattle.std.proofs.Common.{refl}
 use Rattle.book.specs.Values.{hold_view}
-use Rattle.desk.specs.Answers.{entered}
-use Rattle.desk.specs.Calls.{settings_view}
-use Rattle.desk.specs.Command.{Hold}
 use Rattle.desk.specs.auxiliary.Obstacles.{adding, outcome_with, told_with}
-use Rattle.desk.specs.Shown.{numbered_as}
-use Rattle.desk.specs.CallContract.{no_signer}
-use Rattle.desk.proofs.calls.Entered.{entered_as_told}
-use Rattle.desk.proofs.calls.Opened.{steps_opened}
+use Rattle.desk.specs.{Answers.entered, Calls.settings_view, Command.Hold, Shown.numbered_as, CallContract.no_signer}
+use Rattle.desk.proofs.{calls.Entered.entered_as_told, calls.Opened.steps_opened}
 use Rattle.desk.proofs.desk.Desk.hold.Goals as goal
 
 pub returns-clause-step : goal.returns-clause-step

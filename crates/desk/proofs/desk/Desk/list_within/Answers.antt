@@ -1,8 +1,6 @@
 use Rattle.std.proofs.Common.{refl}
 use Rattle.policy.specs.View.{account_view}
-use Rattle.desk.specs.Calls.{settings_view}
-use Rattle.desk.specs.Command.{ListAll}
-use Rattle.desk.specs.Shown.{listed_as}
+use Rattle.desk.specs.{Calls.settings_view, Command.ListAll, Shown.listed_as}
 use Rattle.desk.proofs.calls.Opened.{steps_told}
 use Rattle.desk.proofs.desk.Desk.list_within.Goals as goal
 

@@ -1,8 +1,6 @@
 use Rattle.std.proofs.Common.{subst}
 use Rattle.desk.specs.Asked.{commands_view, answers_view}
-use Rattle.desk.specs.Calls.{settings_view}
-use Rattle.desk.specs.RunContract.{IsRun}
-use Rattle.desk.specs.CallContract.{desk_of}
+use Rattle.desk.specs.{Calls.settings_view, RunContract.IsRun, CallContract.desk_of}
 use Rattle.desk.proofs.journeys.Sound.{TextLaws}
 use Rattle.desk.proofs.journeys.RunsOn.{honest_before, steps_run, file_stays, proper_still}
 use Rattle.desk.proofs.desk.Desk.run.Goals as goal

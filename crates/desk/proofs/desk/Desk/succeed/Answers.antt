@@ -1,6 +1,5 @@
 use Rattle.std.proofs.lemmas.Result.{err_from_is_err_and}
-use Rattle.desk.specs.Calls.{in_force_of, settings_view}
-use Rattle.desk.specs.CallContract.{desk_of}
+use Rattle.desk.specs.{Calls.in_force_of, Calls.settings_view, CallContract.desk_of}
 use Rattle.desk.proofs.calls.Opened.{succeeds_by, succession_refused}
 use Rattle.desk.proofs.desk.Desk.succeed.Goals as goal
 

@@ -1,8 +1,6 @@
 use Rattle.std.proofs.Common.{refl}
 use Rattle.policy.specs.View.{account_view}
-use Rattle.desk.specs.Calls.{settings_view}
-use Rattle.desk.specs.Command.{Token}
-use Rattle.desk.specs.Shown.{shown_as}
+use Rattle.desk.specs.{Calls.settings_view, Command.Token, Shown.shown_as}
 use Rattle.desk.proofs.calls.Opened.{steps_told}
 use Rattle.desk.proofs.desk.Desk.token_of.Goals as goal
 

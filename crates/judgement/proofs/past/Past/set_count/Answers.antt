@@ -1,8 +1,6 @@
 use Rattle.std.proofs.Common.{◌≡◌, ◌==◌, ℕ, List, Some, rules, string_bytes, refl, ap, ◌∙◌, subst, if◌then◌else◌}
-use Rattle.std.specs.BTreeMap.{get_by_text}
-use Rattle.std.specs.Map.{update}
-use Rattle.std.specs.Str.{bytes_eq}
 use Rattle.std.proofs.lemmas.Map.Text.{btree_map_updates_text}
+use Rattle.std.specs.{BTreeMap.get_by_text, Map.update, Str.bytes_eq}
 use Rattle.judgement.specs.Past.{count_on}
 use Rattle.judgement.proofs.RowsBefore.{match_more, set_in, kept_in}
 use Rattle.judgement.proofs.past.Past.set_count.Goals as goal

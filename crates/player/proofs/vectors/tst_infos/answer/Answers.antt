@@ -1,10 +1,7 @@
 use Rattle.std.proofs.Common.{sym, subst, arith, rules}
 use Rattle.std.specs.Option.{option_map}
-use Rattle.der.specs.DataValueView.{value_view}
-use Rattle.der.specs.Node.{IsLawful}
-use Rattle.der.specs.ObjectIdentifier.{IsOid}
-use Rattle.tsp.specs.Tst.{tst_info}
-use Rattle.tsp.specs.View.{request_view}
+use Rattle.der.specs.{DataValueView.value_view, Node.IsLawful, ObjectIdentifier.IsOid}
+use Rattle.tsp.specs.{Tst.tst_info, View.request_view}
 use Rattle.player.proofs.vectors.tst_infos.answer.Goals as goal
 
 -- what answers a request is lawful

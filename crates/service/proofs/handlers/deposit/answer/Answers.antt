@@ -1,10 +1,8 @@
 use Rattle.std.proofs.Common.{refl}
 use Rattle.policy.specs.View.{account_view}
 use Rattle.book.specs.Entries.{reader_view}
-use Rattle.desk.specs.Answers.{answered}
-use Rattle.desk.specs.Asked.{right_command}
-use Rattle.desk.specs.Command.{Show, Token}
 use Rattle.desk.specs.Shown.{done_as, shown_as}
+use Rattle.desk.specs.{Answers.answered, Asked.right_command, Command.Show, Command.Token}
 use Rattle.service.specs.Requests.{OfReaders}
 use Rattle.service.proofs.HandledLemmas.{reported, right_steps, told_plainly}
 use Rattle.service.proofs.handlers.deposit.answer.Goals as goal

@@ -5,8 +5,7 @@ use Rattle.desk.specs.Command.{ListAll, Listed, Refused}
 use Rattle.service.specs.Answers.{refusal_answer, success, unavailable}
 use Rattle.service.specs.Served.{plainly, wants_lines}
 use Rattle.service.specs.declared.answer.Media.TheVariants as media
-use Rattle.service.proofs.ExtractLemmas.{sent_behind}
-use Rattle.service.proofs.HandledLemmas.{told}
+use Rattle.service.proofs.{ExtractLemmas.sent_behind, HandledLemmas.told}
 use Rattle.service.proofs.handlers.deposits.list.Goals as goal
 
 pub returns-in-Err-clause-served : goal.returns-in-Err-clause-served

@@ -1,6 +1,5 @@
 use Rattle.std.proofs.Common.{◌≡◌, ◌∙◌, ap, arith, drop, inl, sym, take}
-use Rattle.service.specs.Heads.{head_value}
-use Rattle.service.specs.Views.{head_view}
+use Rattle.service.specs.{Heads.head_value, Views.head_view}
 use Rattle.service.proofs.RequestLemmas.{due_in_body, due_whole}
 use Rattle.service.proofs.request.Request.due.Goals as goal
 

@@ -1,5 +1,4 @@
-use Rattle.std.proofs.Common.{◌∙◌, length-take-le, sym, take}
-use Rattle.std.proofs.lemmas.Bool.{eqb-true}
+use Rattle.std.proofs.{Common.◌∙◌, Common.length-take-le, Common.sym, Common.take, lemmas.Bool.eqb-true}
 use Rattle.service.proofs.KnownLemmas.{all_parsed, all_refused}
 use Rattle.service.proofs.request.Request.is_all.Goals as goal
 

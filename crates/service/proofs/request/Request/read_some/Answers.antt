@@ -1,11 +1,9 @@
 use Rattle.std.specs.Prelude.{OnErr}
-use Rattle.std.proofs.Common.{Result, Ok, Err}
 use Rattle.std.proofs.Common.{◌≡◌, ◌∙◌, ℕ, ◌+◌, true, List, ◌++◌, ap, arith, drop, length, subst, sym, take}
-use Rattle.std.proofs.lemmas.List.{with_items_is}
+use Rattle.std.proofs.{Common.Result, Common.Ok, Common.Err, lemmas.List.with_items_is}
 use Rattle.httparse.specs.declared.spans.HeaderSpan.{HeaderSpan}
 use Rattle.service.specs.Known.{IsKept, IsKnown, received}
-use Rattle.service.specs.declared.known.Known.{Known}
-use Rattle.service.specs.Received.{IsPartial, is_open}
+use Rattle.service.specs.{declared.known.Known.Known, Received.IsPartial, Received.is_open}
 use Rattle.service.proofs.RequestLemmas.{exact_head, kept_more, kept_partial, open_parts}
 use Rattle.service.proofs.request.Request.read_some.Goals as goal
 

@@ -1,12 +1,8 @@
 use Rattle.std.proofs.Common.{◌≡◌, ℤ, Option, rules, subst, sym, SFits, to_z-of_z, w64}
 use Rattle.std.specs.Prelude.{MatchOption}
-use Rattle.desk.specs.Batches.{Question, stamp_for}
-use Rattle.desk.specs.Together.{question_view}
-use Rattle.desk.specs.declared.batch.Asked.{Asked}
+use Rattle.desk.specs.{Batches.Question, Batches.stamp_for, Together.question_view, declared.batch.Asked.Asked}
 use Rattle.policy.specs.View.{policy_view}
-use Rattle.service.specs.Requests.{Step, asked_by}
-use Rattle.service.specs.Stamps.{AsksStamp}
-use Rattle.service.specs.Views.{head_view, result_by}
+use Rattle.service.specs.{Requests.Step, Requests.asked_by, Stamps.AsksStamp, Views.head_view, Views.result_by}
 use Rattle.service.specs.declared.routes.Action.TheVariants as action
 use Rattle.service.proofs.StampLemmas.{found_stamp}
 use Rattle.service.proofs.request.Request.stamp.Goals as goal

@@ -1,6 +1,5 @@
 use Rattle.std.proofs.Common.{◌≡◌, ◌∙◌, ap, false, subst, sym, true}
-use Rattle.service.specs.Checks.{is_stamp}
-use Rattle.service.specs.Known.{IsDue}
+use Rattle.service.specs.{Checks.is_stamp, Known.IsDue}
 use Rattle.service.specs.declared.due.Due.TheVariants as due
 use Rattle.service.specs.declared.routes.Action.TheVariants as action
 use Rattle.service.proofs.StampLemmas.{is_stamp_due, nothing_else, stamp_is}

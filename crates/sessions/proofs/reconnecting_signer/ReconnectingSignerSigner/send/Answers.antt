@@ -1,7 +1,8 @@
 use Rattle.std.proofs.Common.{◌<◌, [], map, Some, refl, sym, ap, ◌∙◌, subst, arith}
 use Rattle.sessions.specs.ReconnectingSigner.{nothing, lost}
-use Rattle.sessions.proofs.Chains.{none_texts, some_texts, some_owed, none_owed, hands_none, hands_abandoned, hands_refused}
-use Rattle.sessions.proofs.Chains.{hands_all, hands_singly, hands_failed, sends_off}
+use Rattle.sessions.proofs.{Chains.none_texts, Chains.some_texts, Chains.some_owed, Chains.none_owed, Chains.hands_none}
+use Rattle.sessions.proofs.{Chains.hands_abandoned, Chains.hands_refused, Chains.hands_all, Chains.hands_singly}
+use Rattle.sessions.proofs.{Chains.hands_failed, Chains.sends_off}
 use Rattle.sessions.proofs.reconnecting_signer.ReconnectingSignerSigner.send.Goals as goal
 
 pub returns-then-is_empty-clause-awaits : goal.returns-then-is_empty-clause-awaits

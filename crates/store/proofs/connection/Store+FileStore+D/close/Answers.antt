@@ -1,5 +1,4 @@
-use Rattle.store.proofs.Words.{subst}
-use Rattle.store.proofs.ClosedStores.{copied_of}
+use Rattle.store.proofs.{Words.subst, ClosedStores.copied_of}
 use Rattle.store.specs.Files.{HasClosed}
 use Rattle.store.proofs.connection.Store+FileStore+D.close.Goals as goal
 

@@ -1,8 +1,7 @@
 use Rattle.store.proofs.Words.{IsNonDecreasingBy, IsPartitionPoint, IsPartitionPoint-from_clause, IsPartitionedBy-ltb}
 use Rattle.store.proofs.Words.{Label, ap, arith, false, length, ltb, nat_tests, rules, string_bytes, subst, sym, true}
-use Rattle.store.proofs.Words.{◌<◌, ◌∙◌, ◌≡◌, ◌≤◌}
-use Rattle.store.proofs.CursorMoves.{any_default}
 use Rattle.store.proofs.LabelRows.{another_there, its_reference, none_there, rising}
+use Rattle.store.proofs.{Words.◌<◌, Words.◌∙◌, Words.◌≡◌, Words.◌≤◌, CursorMoves.any_default}
 use Rattle.store.proofs.labels.Owned.reference.Goals as goal
 
 pub returns-then-at-len-clause-value : goal.returns-then-at-len-clause-value

@@ -1,5 +1,4 @@
-use Rattle.store.proofs.Words.{over_files}
-use Rattle.store.proofs.Creation.{made_of_none}
+use Rattle.store.proofs.{Words.over_files, Creation.made_of_none}
 use Rattle.store.proofs.path.Store+FileStore+FileFrom+T.make.Goals as goal
 
 pub returns-clause-made : goal.returns-clause-made

@@ -1,6 +1,4 @@
-use Rattle.store.proofs.Words.{◌∙◌}
-use Rattle.store.proofs.AtNumber.{calibration_at}
-use Rattle.store.proofs.Calls.{looks_up_with}
+use Rattle.store.proofs.{Words.◌∙◌, AtNumber.calibration_at, Calls.looks_up_with}
 use Rattle.store.proofs.sequence.CalibrationNumbered.after.Goals as goal
 
 pub returns : goal.returns

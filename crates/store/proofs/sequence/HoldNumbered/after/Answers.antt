@@ -1,5 +1,4 @@
-use Rattle.store.proofs.AtNumber.{hold_at}
-use Rattle.store.proofs.Calls.{looks_up_as}
+use Rattle.store.proofs.{AtNumber.hold_at, Calls.looks_up_as}
 use Rattle.store.proofs.sequence.HoldNumbered.after.Goals as goal
 
 pub returns : goal.returns

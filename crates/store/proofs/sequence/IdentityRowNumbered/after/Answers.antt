@@ -1,5 +1,4 @@
-use Rattle.store.proofs.AtNumber.{identity_at}
-use Rattle.store.proofs.Calls.{looks_up_as}
+use Rattle.store.proofs.{AtNumber.identity_at, Calls.looks_up_as}
 use Rattle.store.proofs.sequence.IdentityRowNumbered.after.Goals as goal
 
 pub returns : goal.returns

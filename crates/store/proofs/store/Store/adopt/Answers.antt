@@ -1,5 +1,4 @@
-use Rattle.store.proofs.Words.{sym, ◌∙◌}
-use Rattle.store.proofs.Migration.{told_database, told_not_ours}
+use Rattle.store.proofs.{Words.sym, Words.◌∙◌, Migration.told_database, Migration.told_not_ours}
 use Rattle.store.specs.TablesOf.{tables_of}
 use Rattle.store.proofs.store.Store.adopt.Goals as goal
 

@@ -1,6 +1,5 @@
 -- The cursors of the account and of the groups so far have moved.
-use Rattle.store.proofs.Words.{map, viewer_of}
-use Rattle.store.proofs.CursorMoves.{HasMoved}
+use Rattle.store.proofs.{Words.map, Words.viewer_of, CursorMoves.HasMoved}
 use Rattle.store.proofs.store.Store.advance.Given as goal
 
 abbrev pub invariant-loop-i : goal.invariant-loop-i

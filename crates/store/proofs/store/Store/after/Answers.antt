@@ -1,5 +1,4 @@
-use Rattle.store.proofs.Words.{refl}
-use Rattle.store.proofs.Calls.{kept_seen, looks_now}
+use Rattle.store.proofs.{Words.refl, Calls.kept_seen, Calls.looks_now}
 use Rattle.store.proofs.store.Store.after.Goals as goal
 
 pub returns-in_err-found-clause-looks : goal.returns-in_err-found-clause-looks

@@ -1,6 +1,5 @@
 -- They are the first of all.
-use Rattle.store.proofs.Words.{length, map, ◌-◌, ◌^◌}
-use Rattle.store.proofs.Gathered.{HasGathered}
+use Rattle.store.proofs.{Words.length, Words.map, Words.◌-◌, Words.◌^◌, Gathered.HasGathered}
 use Rattle.store.proofs.store.Store.all.Given as goal
 
 abbrev pub invariant-loop-found : goal.invariant-loop-found

@@ -1,5 +1,4 @@
-use Rattle.store.proofs.Words.{entries_view}
-use Rattle.store.proofs.Creation.{left_as_it_was, left_or_made, stands_made}
+use Rattle.store.proofs.{Words.entries_view, Creation.left_as_it_was, Creation.left_or_made, Creation.stands_made}
 use Rattle.store.proofs.store.Store.create_with.Goals as goal
 
 pub returns-in-Ok-clause-stands : goal.returns-in-Ok-clause-stands

@@ -1,6 +1,4 @@
-use Rattle.store.proofs.Words.{reader_view, ◌∙◌}
-use Rattle.store.proofs.Calls.{kept_seen, looks_now}
-use Rattle.store.proofs.Readers.{rights_are}
+use Rattle.store.proofs.{Words.reader_view, Words.◌∙◌, Calls.kept_seen, Calls.looks_now, Readers.rights_are}
 use Rattle.store.proofs.store.Store.is_reader.Goals as goal
 
 pub returns-in_err-reads-clause-looks : goal.returns-in_err-reads-clause-looks

@@ -1,6 +1,5 @@
-use Rattle.store.proofs.Calls.{kept_seen, looks_now, no_answer}
 use Rattle.store.proofs.DepositAnswers.{with_label, without_label, without_origin}
-use Rattle.store.proofs.Walk.{looks_after}
+use Rattle.store.proofs.{Calls.kept_seen, Calls.looks_now, Calls.no_answer, Walk.looks_after}
 use Rattle.store.proofs.store.Store.listing.Goals as goal
 
 pub returns-in_err-origin-clause-looks : goal.returns-in_err-origin-clause-looks

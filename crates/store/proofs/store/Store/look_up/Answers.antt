@@ -1,5 +1,4 @@
-use Rattle.store.proofs.Calls.{kept_seen, looks_now}
-use Rattle.store.proofs.LabelRows.{one_more_owned}
+use Rattle.store.proofs.{Calls.kept_seen, Calls.looks_now, LabelRows.one_more_owned}
 use Rattle.store.proofs.store.Store.look_up.Goals as goal
 
 pub returns-in_err-labels-clause-looks : goal.returns-in_err-labels-clause-looks

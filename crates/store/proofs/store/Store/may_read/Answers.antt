@@ -1,7 +1,5 @@
 use Rattle.store.proofs.Words.{ap, drop_more, map, subst, viewer_of}
-use Rattle.store.proofs.Asked.{HasAsked, asked_alone, asked_more}
-use Rattle.store.proofs.Calls.{no_answer}
-use Rattle.store.proofs.Walk.{looks_after}
+use Rattle.store.proofs.{Asked.HasAsked, Asked.asked_alone, Asked.asked_more, Calls.no_answer, Walk.looks_after}
 use Rattle.store.proofs.store.Store.may_read.Goals as goal
 
 pub loop-name-init : goal.loop-name-init

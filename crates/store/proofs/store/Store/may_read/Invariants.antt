@@ -1,6 +1,5 @@
 -- Nobody that was asked of reads the deposit.
-use Rattle.store.proofs.Words.{drop, map, viewer_of}
-use Rattle.store.proofs.Asked.{HasAsked}
+use Rattle.store.proofs.{Words.drop, Words.map, Words.viewer_of, Asked.HasAsked}
 use Rattle.store.proofs.store.Store.may_read.Given as goal
 
 abbrev pub invariant-loop-name : goal.invariant-loop-name

@@ -1,5 +1,4 @@
-use Rattle.store.proofs.Calls.{no_answer}
-use Rattle.store.proofs.LabelRows.{next_at}
+use Rattle.store.proofs.{Calls.no_answer, LabelRows.next_at}
 use Rattle.store.proofs.store.Store.next_owned.Goals as goal
 
 pub returns-clause-value : goal.returns-clause-value

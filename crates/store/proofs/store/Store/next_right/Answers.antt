@@ -1,6 +1,4 @@
-use Rattle.store.proofs.Words.{reader_view}
-use Rattle.store.proofs.Calls.{kept_seen, looks_now}
-use Rattle.store.proofs.Lists.{right_view}
+use Rattle.store.proofs.{Words.reader_view, Calls.kept_seen, Calls.looks_now, Lists.right_view}
 use Rattle.store.proofs.store.Store.next_right.Goals as goal
 
 pub returns-in_err-next-clause-looks : goal.returns-in_err-next-clause-looks

@@ -1,7 +1,5 @@
 use Rattle.store.proofs.Words.{ap, length-map, map, subst, sym, viewer_of, ◌∙◌}
-use Rattle.store.proofs.Calls.{no_answer}
-use Rattle.store.proofs.Lists.{later_view, next_view}
-use Rattle.store.proofs.Walk.{looks_after}
+use Rattle.store.proofs.{Calls.no_answer, Lists.later_view, Lists.next_view, Walk.looks_after}
 use Rattle.store.specs.auxiliary.Steps.{IsNextSeen, later_of, least_of}
 use Rattle.store.proofs.store.Store.next_seen.Goals as goal
 

@@ -1,5 +1,4 @@
-use Rattle.store.proofs.Calls.{no_answer}
-use Rattle.store.proofs.LabelRows.{reference_at}
+use Rattle.store.proofs.{Calls.no_answer, LabelRows.reference_at}
 use Rattle.store.proofs.store.Store.reference_of.Goals as goal
 
 pub returns-in-Ok-clause-value : goal.returns-in-Ok-clause-value

@@ -1,7 +1,6 @@
 use Rattle.store.proofs.Words.{Appends, IsCounted, Result, StoreFault, TableFault, ap, count_after, entries_view}
-use Rattle.store.proofs.Words.{fault_of, subst, sym, ℕ, ◌∙◌, ◌≡◌}
-use Rattle.store.proofs.Calls.{appends, refused}
-use Rattle.store.proofs.store.StoreBook.append.Goals.{in-Err, in-Ok}
+use Rattle.store.proofs.{Words.fault_of, Words.subst, Words.sym, Words.ℕ, Words.◌∙◌, Words.◌≡◌, Calls.appends}
+use Rattle.store.proofs.{Calls.refused, store.StoreBook.append.Goals.in-Err, store.StoreBook.append.Goals.in-Ok}
 use Rattle.store.specs.Stands.{over_tables}
 use Rattle.tables.specs.declared.fault.TableFault.TheVariants as table
 use Rattle.store.proofs.store.StoreBook.append.Goals as goal

@@ -1,5 +1,4 @@
-use Rattle.store.proofs.Calls.{kept_seen, looks_now}
-use Rattle.store.proofs.DepositRows.{under_view_of}
+use Rattle.store.proofs.{Calls.kept_seen, Calls.looks_now, DepositRows.under_view_of}
 use Rattle.store.proofs.store.StoreBook.by_reference.Goals as goal
 
 pub returns-in_err-found-clause-looks : goal.returns-in_err-found-clause-looks

@@ -1,6 +1,4 @@
-use Rattle.store.proofs.Words.{◌∙◌}
-use Rattle.store.proofs.Calls.{kept_seen, looks_now}
-use Rattle.store.proofs.Numbered.{calibration_view_of}
+use Rattle.store.proofs.{Words.◌∙◌, Calls.kept_seen, Calls.looks_now, Numbered.calibration_view_of}
 use Rattle.store.proofs.store.StoreBook.calibration.Goals as goal
 
 pub returns-in_err-latest-clause-looks : goal.returns-in_err-latest-clause-looks

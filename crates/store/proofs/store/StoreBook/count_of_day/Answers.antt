@@ -1,6 +1,4 @@
-use Rattle.store.proofs.Words.{◌∙◌}
-use Rattle.store.proofs.Calls.{kept_seen, looks_now}
-use Rattle.store.proofs.Tallies.{asked_day, count_view}
+use Rattle.store.proofs.{Words.◌∙◌, Calls.kept_seen, Calls.looks_now, Tallies.asked_day, Tallies.count_view}
 use Rattle.store.proofs.store.StoreBook.count_of_day.Goals as goal
 
 pub returns-in_err-count-clause-looks : goal.returns-in_err-count-clause-looks

@@ -1,6 +1,5 @@
-use Rattle.store.proofs.Words.{stamped_beyond}
-use Rattle.store.proofs.Calls.{kept_seen, looks_now, looks_twice, no_answer}
 use Rattle.store.proofs.DepositAnswers.{with_both, without_deposit, without_stamp}
+use Rattle.store.proofs.{Words.stamped_beyond, Calls.kept_seen, Calls.looks_now, Calls.looks_twice, Calls.no_answer}
 use Rattle.store.proofs.store.StoreBook.deposit.Goals as goal
 
 pub returns-then-number-gt-GREATEST_NUMBER-clause-value : goal.returns-then-number-gt-GREATEST_NUMBER-clause-value

@@ -1,6 +1,5 @@
 use Rattle.store.proofs.Words.{ap, is_held, to_z-of_z, ◌∙◌}
-use Rattle.store.proofs.Calls.{kept_seen, looks_now}
-use Rattle.store.proofs.Numbered.{held_view}
+use Rattle.store.proofs.{Calls.kept_seen, Calls.looks_now, Numbered.held_view}
 use Rattle.store.proofs.store.StoreBook.held_at.Goals as goal
 
 pub returns-in_err-held-clause-looks : goal.returns-in_err-held-clause-looks

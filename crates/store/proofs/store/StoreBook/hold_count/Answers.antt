@@ -1,6 +1,4 @@
-use Rattle.store.proofs.Words.{◌∙◌}
-use Rattle.store.proofs.Calls.{kept_seen, looks_now}
-use Rattle.store.proofs.Numbered.{hold_count}
+use Rattle.store.proofs.{Words.◌∙◌, Calls.kept_seen, Calls.looks_now, Numbered.hold_count}
 use Rattle.store.proofs.store.StoreBook.hold_count.Goals as goal
 
 pub returns-in_err-greatest-clause-looks : goal.returns-in_err-greatest-clause-looks

@@ -1,6 +1,5 @@
-use Rattle.store.proofs.Words.{unowned_beyond, ◌∙◌}
 use Rattle.store.proofs.Calls.{kept_seen, looks_now, no_answer}
-use Rattle.store.proofs.DepositRows.{own_view}
+use Rattle.store.proofs.{Words.unowned_beyond, Words.◌∙◌, DepositRows.own_view}
 use Rattle.store.proofs.store.StoreBook.is_owner.Goals as goal
 
 pub returns-then-number-gt-GREATEST_NUMBER-clause-value : goal.returns-then-number-gt-GREATEST_NUMBER-clause-value

@@ -1,6 +1,4 @@
-use Rattle.store.proofs.Words.{◌∙◌}
-use Rattle.store.proofs.Calls.{kept_seen, looks_now}
-use Rattle.store.proofs.FallingSerials.{last_view}
+use Rattle.store.proofs.{Words.◌∙◌, Calls.kept_seen, Calls.looks_now, FallingSerials.last_view}
 use Rattle.store.proofs.store.StoreBook.last.Goals as goal
 
 pub returns-in_err-stamp-clause-looks : goal.returns-in_err-stamp-clause-looks

@@ -1,10 +1,7 @@
 use Rattle.std.proofs.KnownBytes.{Keeps-refl, Keeps-trans}
 use Rattle.store.proofs.Words.{IfSome, ap, length-map, listed_view, map, replicate, subst, sym, viewer_of, ◌<◌, ◌^◌}
-use Rattle.store.proofs.Words.{◌∙◌}
-use Rattle.store.proofs.Calls.{no_answer}
-use Rattle.store.proofs.LabelRows.{none_owned}
 use Rattle.store.proofs.Walk.{HasListed, ahead_at_first, at_first, looks_after, nothing_listed, row_listed}
-use Rattle.store.proofs.Walk.{sized_at_first, whole_listed}
+use Rattle.store.proofs.{Words.◌∙◌, Calls.no_answer, LabelRows.none_owned, Walk.sized_at_first, Walk.whole_listed}
 use Rattle.store.specs.auxiliary.Steps.{AreNextReadable, IsNextSeen}
 use Rattle.store.proofs.store.StoreBook.list.Goals as goal
 

@@ -1,7 +1,6 @@
 -- The rows are what is listed up to the last number, how far the cursors have gone is known, and nothing was written.
 use Rattle.std.specs.Io.KnownBytes.{Keeps}
-use Rattle.store.proofs.Words.{listed_view, map, viewer_of, ◌-◌, ◌^◌}
-use Rattle.store.proofs.Walk.{HasListed}
+use Rattle.store.proofs.{Words.listed_view, Words.map, Words.viewer_of, Words.◌-◌, Words.◌^◌, Walk.HasListed}
 use Rattle.store.proofs.store.StoreBook.list.Given as goal
 
 abbrev pub invariant-loop-known : goal.invariant-loop-known

@@ -1,6 +1,5 @@
 use Rattle.store.proofs.Words.{IsLeastAs, IsNextStamp, ShowsStamp, arith, is_within, subst, sym, ◌≡◌}
-use Rattle.store.proofs.Between.{empty_view, next_view, small_found}
-use Rattle.store.proofs.Calls.{kept_seen, looks_now}
+use Rattle.store.proofs.{Between.empty_view, Between.next_view, Between.small_found, Calls.kept_seen, Calls.looks_now}
 use Rattle.store.specs.auxiliary.Replay.{replayed}
 use Rattle.store.proofs.store.StoreBook.next_stamp.Goals as goal
 

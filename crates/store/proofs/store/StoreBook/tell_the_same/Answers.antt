@@ -1,5 +1,4 @@
-use Rattle.store.proofs.Calls.{stands_for}
-use Rattle.store.proofs.Same.{keeps_shown}
+use Rattle.store.proofs.{Calls.stands_for, Same.keeps_shown}
 use Rattle.store.proofs.store.StoreBook.tell_the_same.Goals as goal
 
 pub returns : goal.returns

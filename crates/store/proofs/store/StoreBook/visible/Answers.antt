@@ -1,7 +1,5 @@
-use Rattle.store.proofs.Words.{IfOk-weaker, unseen_beyond}
-use Rattle.store.proofs.Calls.{no_answer}
 use Rattle.store.proofs.DepositRows.{seen_by_owner, seen_by_reader}
-use Rattle.store.proofs.Walk.{looks_after}
+use Rattle.store.proofs.{Words.IfOk-weaker, Words.unseen_beyond, Calls.no_answer, Walk.looks_after}
 use Rattle.store.proofs.store.StoreBook.visible.Goals as goal
 
 pub returns-then-number-gt-GREATEST_NUMBER-clause-value : goal.returns-then-number-gt-GREATEST_NUMBER-clause-value

@@ -1,8 +1,6 @@
 use Rattle.tables.proofs.Words.{None, Option, Some, ap, state, subst, sym, ◌∙◌, ◌≡◌, ◌≢◌}
-use Rattle.tables.specs.Versions.{TellsVersion}
-use Rattle.tables.specs.declared.version.Version.{Version}
-use Rattle.tables.proofs.BaseLemmas.{adopted_keeps}
-use Rattle.tables.proofs.MigrateLemmas.{in_now}
+use Rattle.tables.proofs.{BaseLemmas.adopted_keeps, MigrateLemmas.in_now}
+use Rattle.tables.specs.{Versions.TellsVersion, declared.version.Version.Version}
 use Rattle.tables.specs.declared.version.Version.TheVariants as version
 use Rattle.tables.proofs.base.Base.adopt.Goals as goal
 

@@ -1,6 +1,5 @@
-use Rattle.tables.proofs.Words.{subst}
+use Rattle.tables.proofs.{Words.subst, BaseReads.fault_told, BaseReads.read_on, BaseReads.refused_too}
 use Rattle.tables.specs.QueryAnswers.{AreReadAs}
-use Rattle.tables.proofs.BaseReads.{fault_told, read_on, refused_too}
 use Rattle.tables.proofs.base.Base.all_as.Goals as goal
 
 pub returns-in-Ok : goal.returns-in-Ok

@@ -1,8 +1,5 @@
-use Rattle.tables.proofs.Words.{refl}
+use Rattle.tables.proofs.{Words.refl, FoundLemmas.found_looks, Lookups.finds_calibration, ReadCells.calibration_read}
 use Rattle.tables.specs.Queries.{ShowsCalibration}
-use Rattle.tables.proofs.FoundLemmas.{found_looks}
-use Rattle.tables.proofs.Lookups.{finds_calibration}
-use Rattle.tables.proofs.ReadCells.{calibration_read}
 use Rattle.tables.proofs.base.Base.calibration.Goals as goal
 
 pub returns : goal.returns

@@ -1,6 +1,5 @@
-use Rattle.tables.proofs.Words.{entries_view}
+use Rattle.tables.proofs.{Words.entries_view, BaseLemmas.crash_leaves, BaseLemmas.keeps_on, BaseLemmas.keeps_still}
 use Rattle.tables.specs.Changes.{applied_all}
-use Rattle.tables.proofs.BaseLemmas.{crash_leaves, keeps_on, keeps_still}
 use Rattle.tables.proofs.base.Base.commit.Goals as goal
 
 pub returns-in-Ok-clause-ok : goal.returns-in-Ok-clause-ok

@@ -1,5 +1,4 @@
-use Rattle.tables.proofs.Words.{entries_view}
-use Rattle.tables.proofs.BaseLemmas.{created_keeps}
+use Rattle.tables.proofs.{Words.entries_view, BaseLemmas.created_keeps}
 use Rattle.tables.proofs.base.Base.create.Goals as goal
 
 pub returns-in-Ok-clause-keeps : goal.returns-in-Ok-clause-keeps

@@ -1,8 +1,5 @@
-use Rattle.tables.proofs.Words.{refl}
+use Rattle.tables.proofs.{Words.refl, CellLemmas.text_more, FoundLemmas.found_looks, Lookups.finds_deposit_under}
 use Rattle.tables.specs.Queries.{ShowsDeposit}
-use Rattle.tables.proofs.CellLemmas.{text_more}
-use Rattle.tables.proofs.FoundLemmas.{found_looks}
-use Rattle.tables.proofs.Lookups.{finds_deposit_under}
 use Rattle.tables.proofs.base.Base.deposit_under.Goals as goal
 
 pub returns : goal.returns

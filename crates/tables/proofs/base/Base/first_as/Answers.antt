@@ -1,5 +1,4 @@
-use Rattle.tables.proofs.Words.{refl}
-use Rattle.tables.proofs.BaseReads.{fault_told, read_on, refused_too}
+use Rattle.tables.proofs.{Words.refl, BaseReads.fault_told, BaseReads.read_on, BaseReads.refused_too}
 use Rattle.tables.proofs.base.Base.first_as.Goals as goal
 
 pub returns-in-Ok : goal.returns-in-Ok

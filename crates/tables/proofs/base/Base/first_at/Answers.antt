@@ -1,7 +1,4 @@
-use Rattle.tables.proofs.Words.{refl}
-use Rattle.tables.proofs.BaseReads.{fault_alone}
-use Rattle.tables.proofs.CellLemmas.{value_more}
-use Rattle.tables.proofs.FoundLemmas.{looks_given}
+use Rattle.tables.proofs.{Words.refl, BaseReads.fault_alone, CellLemmas.value_more, FoundLemmas.looks_given}
 use Rattle.tables.proofs.base.Base.first_at.Goals as goal
 
 pub returns : goal.returns

@@ -1,8 +1,5 @@
-use Rattle.tables.proofs.Words.{refl}
+use Rattle.tables.proofs.{Words.refl, FoundLemmas.greatest_looks, Lookups.finds_greatest_hold, ReadCells.number_of}
 use Rattle.tables.specs.Queries.{ShowsNumber}
-use Rattle.tables.proofs.FoundLemmas.{greatest_looks}
-use Rattle.tables.proofs.Lookups.{finds_greatest_hold}
-use Rattle.tables.proofs.ReadCells.{number_of}
 use Rattle.tables.proofs.base.Base.greatest_hold.Goals as goal
 
 pub returns-clause-looks : goal.returns-clause-looks

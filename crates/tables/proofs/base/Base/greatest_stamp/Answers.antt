@@ -1,8 +1,5 @@
-use Rattle.tables.proofs.Words.{refl}
+use Rattle.tables.proofs.{Words.refl, FoundLemmas.greatest_looks, Lookups.finds_last_stamp, ReadCells.last_read}
 use Rattle.tables.specs.Queries.{ShowsLast}
-use Rattle.tables.proofs.FoundLemmas.{greatest_looks}
-use Rattle.tables.proofs.Lookups.{finds_last_stamp}
-use Rattle.tables.proofs.ReadCells.{last_read}
 use Rattle.tables.proofs.base.Base.greatest_stamp.Goals as goal
 
 pub returns : goal.returns

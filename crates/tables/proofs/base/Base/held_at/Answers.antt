@@ -1,7 +1,5 @@
 use Rattle.tables.proofs.Words.{SFits, refl, rules, to_z-of_z, w64}
-use Rattle.tables.proofs.CellLemmas.{int_more}
-use Rattle.tables.proofs.FoundLemmas.{any_looks}
-use Rattle.tables.proofs.Lookups.{finds_hold_at}
+use Rattle.tables.proofs.{CellLemmas.int_more, FoundLemmas.any_looks, Lookups.finds_hold_at}
 use Rattle.tables.proofs.base.Base.held_at.Goals as goal
 
 pub returns : goal.returns

@@ -1,8 +1,5 @@
-use Rattle.tables.proofs.Words.{refl}
+use Rattle.tables.proofs.{Words.refl, FoundLemmas.found_looks, Lookups.finds_hold, ReadCells.hold_read}
 use Rattle.tables.specs.Queries.{ShowsHold}
-use Rattle.tables.proofs.FoundLemmas.{found_looks}
-use Rattle.tables.proofs.Lookups.{finds_hold}
-use Rattle.tables.proofs.ReadCells.{hold_read}
 use Rattle.tables.proofs.base.Base.hold.Goals as goal
 
 pub returns : goal.returns

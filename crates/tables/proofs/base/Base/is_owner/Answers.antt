@@ -1,8 +1,5 @@
-use Rattle.tables.proofs.Words.{refl}
-use Rattle.tables.proofs.BaseReads.{fault_alone}
 use Rattle.tables.proofs.CellLemmas.{text_more, value_more}
-use Rattle.tables.proofs.FoundLemmas.{any_looks}
-use Rattle.tables.proofs.Lookups.{finds_is_owner}
+use Rattle.tables.proofs.{Words.refl, BaseReads.fault_alone, FoundLemmas.any_looks, Lookups.finds_is_owner}
 use Rattle.tables.proofs.base.Base.is_owner.Goals as goal
 
 pub returns : goal.returns

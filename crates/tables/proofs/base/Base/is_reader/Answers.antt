@@ -1,8 +1,5 @@
-use Rattle.tables.proofs.Words.{reader_view, refl}
-use Rattle.tables.proofs.BaseReads.{fault_alone}
-use Rattle.tables.proofs.CellLemmas.{text_more, value_more}
-use Rattle.tables.proofs.FoundLemmas.{any_looks}
-use Rattle.tables.proofs.Lookups.{finds_is_reader}
+use Rattle.tables.proofs.{Words.reader_view, Words.refl, BaseReads.fault_alone, CellLemmas.text_more}
+use Rattle.tables.proofs.{CellLemmas.value_more, FoundLemmas.any_looks, Lookups.finds_is_reader}
 use Rattle.tables.proofs.base.Base.is_reader.Goals as goal
 
 pub returns : goal.returns

@@ -1,8 +1,5 @@
-use Rattle.tables.proofs.Words.{refl}
+use Rattle.tables.proofs.{Words.refl, CellLemmas.text_more, FoundLemmas.all_looks, Lookups.finds_labels}
 use Rattle.tables.specs.Queries.{label_view}
-use Rattle.tables.proofs.CellLemmas.{text_more}
-use Rattle.tables.proofs.FoundLemmas.{all_looks}
-use Rattle.tables.proofs.Lookups.{finds_labels}
 use Rattle.tables.proofs.base.Base.labels.Goals as goal
 
 pub returns : goal.returns

@@ -1,8 +1,6 @@
-use Rattle.tables.proofs.Words.{refl}
-use Rattle.tables.specs.Queries.{ShowsCalibration}
-use Rattle.tables.proofs.FoundLemmas.{greatest_looks}
 use Rattle.tables.proofs.Lookups.{finds_latest_calibration}
-use Rattle.tables.proofs.ReadCells.{calibration_read}
+use Rattle.tables.proofs.{Words.refl, FoundLemmas.greatest_looks, ReadCells.calibration_read}
+use Rattle.tables.specs.Queries.{ShowsCalibration}
 use Rattle.tables.proofs.base.Base.latest_calibration.Goals as goal
 
 pub returns : goal.returns

@@ -1,10 +1,6 @@
-use Rattle.tables.proofs.Words.{reader_view, refl}
+use Rattle.tables.proofs.{Words.reader_view, Words.refl, BaseReads.fault_alone, FoundLemmas.least_looks}
+use Rattle.tables.proofs.{CellLemmas.text_more, CellLemmas.value_more, Lookups.finds_next_readable, ReadCells.number_of}
 use Rattle.tables.specs.Queries.{ShowsReaderSerial}
-use Rattle.tables.proofs.BaseReads.{fault_alone}
-use Rattle.tables.proofs.CellLemmas.{text_more, value_more}
-use Rattle.tables.proofs.FoundLemmas.{least_looks}
-use Rattle.tables.proofs.Lookups.{finds_next_readable}
-use Rattle.tables.proofs.ReadCells.{number_of}
 use Rattle.tables.proofs.base.Base.next_readable.Goals as goal
 
 pub returns-clause-looks : goal.returns-clause-looks

@@ -1,8 +1,5 @@
-use Rattle.tables.proofs.Words.{refl}
+use Rattle.tables.proofs.{Words.refl, CellLemmas.value_more, FoundLemmas.least_looks, Lookups.finds_next_stamp}
 use Rattle.tables.specs.Queries.{ShowsStamp}
-use Rattle.tables.proofs.CellLemmas.{value_more}
-use Rattle.tables.proofs.FoundLemmas.{least_looks}
-use Rattle.tables.proofs.Lookups.{finds_next_stamp}
 use Rattle.tables.proofs.base.Base.next_stamp.Goals as goal
 
 pub returns : goal.returns

@@ -1,7 +1,5 @@
-use Rattle.tables.proofs.Words.{refl}
+use Rattle.tables.proofs.{Words.refl, FoundLemmas.found_looks, Lookups.finds_origin}
 use Rattle.tables.specs.Queries.{ShowsOrigin}
-use Rattle.tables.proofs.FoundLemmas.{found_looks}
-use Rattle.tables.proofs.Lookups.{finds_origin}
 use Rattle.tables.proofs.base.Base.origin.Goals as goal
 
 pub returns : goal.returns

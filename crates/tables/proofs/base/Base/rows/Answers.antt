@@ -1,5 +1,4 @@
-use Rattle.tables.proofs.Words.{refl}
-use Rattle.tables.proofs.BaseReads.{fault_told, reads_only}
+use Rattle.tables.proofs.{Words.refl, BaseReads.fault_told, BaseReads.reads_only}
 use Rattle.tables.proofs.base.Base.rows.Goals as goal
 
 pub returns-in-Ok : goal.returns-in-Ok

@@ -1,9 +1,6 @@
-use Rattle.tables.proofs.Words.{refl}
-use Rattle.tables.specs.Queries.{ShowsCount}
 use Rattle.tables.proofs.CellLemmas.{text_more, value_more}
-use Rattle.tables.proofs.FoundLemmas.{found_looks}
-use Rattle.tables.proofs.Lookups.{finds_tally}
-use Rattle.tables.proofs.ReadCells.{number_of}
+use Rattle.tables.proofs.{Words.refl, FoundLemmas.found_looks, Lookups.finds_tally, ReadCells.number_of}
+use Rattle.tables.specs.Queries.{ShowsCount}
 use Rattle.tables.proofs.base.Base.tally.Goals as goal
 
 pub returns : goal.returns

@@ -1,8 +1,6 @@
 use Rattle.std.proofs.Common.{None, sym, subst, arith}
-use Rattle.der.specs.Node.{IsLawful}
-use Rattle.der.specs.ObjectIdentifier.{IsOid}
-use Rattle.tsp.specs.Tst.{tst_info}
-use Rattle.tsp.specs.View.{request_view}
+use Rattle.der.specs.{Node.IsLawful, ObjectIdentifier.IsOid}
+use Rattle.tsp.specs.{Tst.tst_info, View.request_view}
 use Rattle.trials.proofs.work.replies.tst_of.Goals as goal
 
 pub write_tst-requires-clause-lawful : goal.write_tst-requires-clause-lawful

@@ -1,6 +1,0 @@
-use Rattle.std.proofs.Common.{◌≡◌}
-use Rattle.connections.specs.Waiting.{places_of}
-use Rattle.connections.proofs.listening.hear_events.Given as goal
-
-abbrev pub invariant-loop-event : goal.invariant-loop-event
-invariant-loop-event g l = places_of l.places ≡ places_of l.fn.places
