@@ -159,7 +159,11 @@ impl<S: Connection + Drop> Places<S> {
     }
 
     /// Another whose request is whole already is taken out of its place. None where there is none.
-    pub(crate) fn take_whole(&mut self, routes: &Routes, registry: &Registry) -> Option<WaitingConnection<S>>
+    pub(crate) fn take_whole(
+        &mut self,
+        routes: &Routes,
+        registry: &Registry,
+    ) -> Option<WaitingConnection<S>>
         ensures { MatchOption result (AreAllUnfinished S.remaining S.fails (places_of self.old) (places_of self.new))
             (λ one. GivesOne S.remaining S.fails (places_of self.old) (place_of one) (places_of self.new)) }
     {

@@ -8,10 +8,10 @@ ghost use Rattle.connections.specs.{Acceptor.WasShort, ClosingConnection.IsFinis
 
 use crate::acceptor::{Accepted, Acceptor, Connection};
 use crate::closing_connection::ClosingConnection;
-use crate::request_source::RequestSource;
 use crate::limited::Limited;
 use crate::peer::Peer;
 use crate::places::{MOST_PLACES, Places, lesser};
+use crate::request_source::RequestSource;
 use crate::server::CONNECTION_SECONDS;
 use crate::timer::Timer;
 use crate::waiting_connection::WaitingConnection;
@@ -68,7 +68,11 @@ fn hear<S>(closing: &mut [ClosingConnection<S>], token: Token) {
 }
 
 /// Those of which the system told may have something. Whether it told of the listener.
-fn hear_events<S>(events: &Events, places: &mut Places<S>, closing: &mut [ClosingConnection<S>]) -> bool
+fn hear_events<S>(
+    events: &Events,
+    places: &mut Places<S>,
+    closing: &mut [ClosingConnection<S>],
+) -> bool
     ensures { places_of places.new ≡ places_of places.old }
 {
     let mut is_ready = false;

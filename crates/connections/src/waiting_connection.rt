@@ -50,7 +50,12 @@ pub(crate) struct WaitingConnection<S> {
 
 impl<S> WaitingConnection<S> {
     /// One that is taken, under a token.
-    pub(crate) fn new(stream: S, token: Token, taken: Instant, alloc: Global) -> WaitingConnection<S>
+    pub(crate) fn new(
+        stream: S,
+        token: Token,
+        taken: Instant,
+        alloc: Global,
+    ) -> WaitingConnection<S>
         ensures stream { result.peer.stream ≡ stream }
         ensures unread { result.request.octets ≡ [] }
         ensures going_on { result.request.is_ended ≡ false }

@@ -11,7 +11,7 @@ use Rattle.console.specs.{Files.ReadsText, Files.Source, Writes.Begins}
 use Rattle.counter.specs.Extract.{IsExamining, CutsExtract, LeavesAudit, StopsCheck, nothing, in_extract, in_check}
 use Rattle.counter.specs.Fault.{fault_of_audit}
 
--- what the operation says of a refused audit, where the inquiry is what the words and the files state
+-- what the operation says of a refused audit, where what is asked is what the words and the files state
 abbrev pub LeavesBy : AuditWords → PolicyValue → AccountValue → (out out' err err' : Option (List ℕ)) → AuditFault
     → Type 0
 LeavesBy words policy account out out' err err' fault =

@@ -10,7 +10,7 @@ use Rattle.connections.specs.Clock.{Reading}
 use Rattle.console.specs.{Files.ReadsText, Files.Source, Writes.Begins, declared.fault.Fault.Fault}
 use Rattle.console.specs.declared.fault.Fault.TheVariants as program
 use Rattle.operations.specs.Audits.{Failure, failing_lines}
-use Rattle.operations.specs.{Machine.Machine, OverFiles.IsAuditedOver, declared.audits.Inquiry.Inquiry}
+use Rattle.operations.specs.{Machine.Machine, OverFiles.IsAuditedOver, declared.audits.Examination.Examination}
 use Rattle.policy.specs.Record.{AccountValue, PolicyValue}
 use Rattle.policy.specs.{LookUp.account_named, Meaning.meaning_of, View.account_view, View.policy_view}
 
@@ -30,18 +30,20 @@ pub record Extracts {D X C S F : Type 0} (m : Machine D X C Reading) (files : So
   pub rules_read : ReadsText files words.rules.now (Ok rules)
   -- by the policy that it means, the account of the name that the words state asks for the stamps from their first to
   -- their last serial number, and for a check and a judgement of each where they do
-  pub inquiry : Inquiry
-  pub meant : meaning_of rules ≡ Ok (policy_view inquiry.policy.now)
-  pub named : account_named (policy_view inquiry.policy.now) words.account.now ≡ Some (account_view inquiry.account.now)
-  pub first : inquiry.from ≡ words.from
-  pub last : inquiry.to ≡ words.to
-  pub check : inquiry.check ≡ words.check
-  pub judge : inquiry.judge ≡ words.judge
+  pub asked : Examination
+  pub meant : meaning_of rules ≡ Ok (policy_view asked.inquiry.policy.now)
+  pub named : account_named (policy_view asked.inquiry.policy.now) words.account.now
+      ≡ Some (account_view asked.inquiry.account.now)
+  pub first : asked.inquiry.from ≡ words.from
+  pub last : asked.inquiry.to ≡ words.to
+  pub check : asked.check ≡ words.check
+  pub judge : asked.judge ≡ words.judge
   -- the account is an auditor's, and asks for a range
-  pub allowed : IsAllowed (policy_view inquiry.policy.now) (account_view inquiry.account.now) words.from words.to
+  pub allowed : IsAllowed (policy_view asked.inquiry.policy.now) (account_view asked.inquiry.account.now) words.from
+      words.to
   -- the store of the database is only looked at; the stamps of that range are extracted, and checked where that is
   -- asked
-  pub audited : IsAuditedOver m.disk m.held inquiry out out' err err' (Ok agree)
+  pub audited : IsAuditedOver m.disk m.held asked out out' err err' (Ok agree)
   -- what is written is the extract of stamps
   pub stamps : List StampRow
   pub written : IsWritten (lines_text stamps)

@@ -7,11 +7,12 @@ ghost use Rattle.counter.specs.Extract.{IsExamining, Extracts, LeavesAudit};
 
 use crate::fault::agreement_of;
 use crate::host::Host;
+use audit::Inquiry;
 use cms::Signer;
 use command_line::AuditWords;
 use connections::{Clock, SystemClock};
 use console::{Fault, FileSource, account_named, read_policy};
-use operations::{Disk, FileFrom, HostSigner, Inquiry, Start};
+use operations::{Disk, Examination, FileFrom, HostSigner, Start};
 use std::io::Write;
 use std::rt::HostRuntime;
 
@@ -38,14 +39,16 @@ pub fn audit<F: Start + Drop, S: FileSource + AllocGlobal, O: Write, E: Write>(
     let rt = host.rt;
     let policy = read_policy(host.files, words.rules)?;
     let account = account_named(&policy, words.account)?;
-    let inquiry = Inquiry {
-        policy: &policy,
-        account,
-        from: words.from,
-        to: words.to,
+    let asked = Examination {
+        inquiry: Inquiry {
+            policy: &policy,
+            account,
+            from: words.from,
+            to: words.to,
+        },
         check: words.check,
         judge: words.judge,
     };
     let database = host.database(words.db);
-    agreement_of(operations::audit(rt.alloc(), database, &inquiry, output, errors))
+    agreement_of(operations::audit(rt.alloc(), database, &asked, output, errors))
 }

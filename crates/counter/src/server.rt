@@ -70,13 +70,7 @@ impl DeskOperation<(), ()> for Serving<'_> {
                     tell_listening(rt, &reactor.acceptor, self.address, self.begun);
                 }
                 let SignedDesk { desk, signer } = signed;
-                match serve_connections(
-                    &mut reactor,
-                    self.connections,
-                    &mut clock,
-                    desk,
-                    signer,
-                ) {
+                match serve_connections(&mut reactor, self.connections, &mut clock, desk, signer) {
                     Ok(()) => Ok(()),
                     Err(_) => Err(OperationFault::Clock),
                 }

@@ -69,7 +69,10 @@ fn judge_each<'p, 'a, B: Book + Drop>(
 }
 
 /// The reservations of what waits, as entries. Refused where memory wants.
-fn entries_of<'w>(alloc: Global, waits: &'w [WaitingStamp<'_, '_>]) -> Result<Vec<Entry<'w>>, StoreFault>
+fn entries_of<'w>(
+    alloc: Global,
+    waits: &'w [WaitingStamp<'_, '_>],
+) -> Result<Vec<Entry<'w>>, StoreFault>
     ensures entries { IfOk result (λ entries. entries_view entries.items ≡ map Reserved (map waiting_view waits.now)) }
     ensures refused { IfErr result (λ fault. fault ≡ StoreFault.Memory) }
 {

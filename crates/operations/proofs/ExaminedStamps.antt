@@ -15,7 +15,7 @@ use Rattle.policy.specs.View.{policy_view}
 use Rattle.operations.specs.Audits.{AreFailing, ExaminesBehind, Failure, IsCutOff, IsFound, Knows, TellsSome}
 use Rattle.operations.specs.Audits.{failing_line, failing_lines, failures_of}
 use Rattle.operations.specs.declared.audits.Findings.{Findings}
-use Rattle.operations.specs.{Kept.IsKept, declared.audits.Inquiry.Inquiry, declared.kept.Kept.Kept}
+use Rattle.operations.specs.{Kept.IsKept, declared.audits.Examination.Examination, declared.kept.Kept.Kept}
 
 -- what comes next of a range is the stamp that is handed out
 pub next_is : (from to : ℕ) (b : History) (found : Option Stamp) (stamp : Stamp) → found ≡ Some stamp
@@ -49,16 +49,16 @@ all_told err err' failures some told =
     some_told err err' failures some (length (failing_lines failures))
     (subst (Appends err err') (sym (take-length (failing_lines failures))) told)
 
-module _ (inquiry : Inquiry) where
+module _ (asked : Examination) where
   -- a further stamp is looked at
   failing_next : (b : History) (before stamps : List StampRow) (failures : List Failure) (stamp : StampRow)
-      (found : Findings) → AreFailing inquiry b before stamps failures
-      → IsFound inquiry b (before ++ stamps) stamp found
-      → AreFailing inquiry b before (stamps ++ stamp ∷ []) (failures ++ failures_of stamp.serial found)
+      (found : Findings) → AreFailing asked b before stamps failures
+      → IsFound asked b (before ++ stamps) stamp found
+      → AreFailing asked b before (stamps ++ stamp ∷ []) (failures ++ failures_of stamp.serial found)
   failing_next b before [] failures stamp found failing is =
       let own = failures_of stamp.serial found in (
         found,
-        subst (λ (rows : List StampRow). IsFound inquiry b rows stamp found) (append-nil before) is,
+        subst (λ (rows : List StampRow). IsFound asked b rows stamp found) (append-nil before) is,
         ([], ap (λ (l : List Failure). l ++ own) failing ∙ sym (append-nil own), refl),
       )
   failing_next b before (first ∷ stamps) failures stamp found failing is =
@@ -70,7 +70,7 @@ module _ (inquiry : Inquiry) where
           rest.0 ++ own,
           ap (λ (l : List Failure). l ++ own) rest.1 ∙ append_assoc (failures_of first.serial failing.0) rest.0 own,
           failing_next b (before ++ first ∷ []) stamps rest.0 stamp found rest.2
-              (subst (λ (rows : List StampRow). IsFound inquiry b rows stamp found)
+              (subst (λ (rows : List StampRow). IsFound asked b rows stamp found)
               (sym (append_assoc before (first ∷ []) stamps)) is),
         ),
       )
@@ -79,15 +79,15 @@ module _ (inquiry : Inquiry) where
     module _ (stamp : StampRow) where
       abbrev pub IsJudgedSo : Option Judgement → Type 0
       IsJudgedSo judged =
-          inquiry.judge ≡ true → IsJudgedBehind (evidence_in (policy_view inquiry.policy.now) b) rows stamp judged
+          asked.judge ≡ true → IsJudgedBehind (evidence_in (policy_view asked.inquiry.policy.now) b) rows stamp judged
 
       -- where stamps are judged
-      pub judged_so : {E : Type 0} (kept kept' : Kept) (r : Result (Option Judgement) E) → inquiry.judge ≡ true
-          → Knows inquiry b rows kept
+      pub judged_so : {E : Type 0} (kept kept' : Kept) (r : Result (Option Judgement) E) → asked.judge ≡ true
+          → Knows asked b rows kept
           → (IsKept b rows kept → IfOk r (λ judged.
-          IsJudgedBehind (evidence_in (policy_view inquiry.policy.now) b) rows stamp judged
+          IsJudgedBehind (evidence_in (policy_view asked.inquiry.policy.now) b) rows stamp judged
           × IsKept b (rows ++ stamp ∷ []) kept'))
-          → IfOk r (λ judged. IsJudgedSo judged × Knows inquiry b (rows ++ stamp ∷ []) kept')
+          → IfOk r (λ judged. IsJudgedSo judged × Knows asked b (rows ++ stamp ∷ []) kept')
       judged_so kept kept' (Ok judged) judge known is =
           let found = is (known.kept_is judge) in (
             λ e. found.0,
@@ -96,9 +96,9 @@ module _ (inquiry : Inquiry) where
       judged_so kept kept' (Err e) judge known is = tt
 
       -- where they aren't checked
-      pub found_unchecked : (judged : Option Judgement) → inquiry.check ≡ false → IsJudgedSo judged
-          → (inquiry.judge ≡ false → judged ≡ None)
-          → IsFound inquiry b rows stamp (record { row = true; deposit = true; judged = judged })
+      pub found_unchecked : (judged : Option Judgement) → asked.check ≡ false → IsJudgedSo judged
+          → (asked.judge ≡ false → judged ≡ None)
+          → IsFound asked b rows stamp (record { row = true; deposit = true; judged = judged })
       found_unchecked judged check_is is unjudged = record {
         row = λ e. cc e;
         deposit = λ e. cc e;
@@ -108,11 +108,11 @@ module _ (inquiry : Inquiry) where
       }
 
       -- and where they are
-      pub found_checked : (row deposit : Bool) (judged : Option Judgement) → inquiry.check ≡ true
+      pub found_checked : (row deposit : Bool) (judged : Option Judgement) → asked.check ≡ true
           → (IsTrue row ↔ IsConsistent stamp (identities b))
           → (IsTrue deposit ↔ IsIntact (deposit_with_stamp stamp.serial b)) → IsJudgedSo judged
-          → (inquiry.judge ≡ false → judged ≡ None)
-          → IsFound inquiry b rows stamp (record { row = row; deposit = deposit; judged = judged })
+          → (asked.judge ≡ false → judged ≡ None)
+          → IsFound asked b rows stamp (record { row = row; deposit = deposit; judged = judged })
       found_checked row deposit judged check_is passes intact is unjudged = record {
         row = λ e. passes;
         deposit = λ e. intact;
@@ -124,16 +124,16 @@ module _ (inquiry : Inquiry) where
   -- what is to be found of a stamp behind the rows that are known, with which it is known then
   abbrev pub IsFoundBy : {B : Type 0} → Ghosts B → (now next : B) → (kept kept' : Kept) → StampRow → Findings → Type 0
   IsFoundBy g now next kept kept' stamp found =
-      g.honest next → (b : History) → Stands g b now → (rows : List StampRow) → Knows inquiry b rows kept
-      → IsFound inquiry b rows stamp found × Knows inquiry b (rows ++ stamp ∷ []) kept'
+      g.honest next → (b : History) → Stands g b now → (rows : List StampRow) → Knows asked b rows kept
+      → IsFound asked b rows stamp found × Knows asked b (rows ++ stamp ∷ []) kept'
 
   -- what is known of the stamps before those that are left, behind these rows
   pub record Examined (b : History) (before : List StampRow) (failures : List Failure) (kept : Kept) (left : ℕ)
       : Type 0 where
     pub stamps : List StampRow
-    pub parts : stamps_between inquiry.from inquiry.to b ≡ stamps ++ stamps_between left inquiry.to b
-    pub failing : AreFailing inquiry b before stamps failures
-    pub known : Knows inquiry b (before ++ stamps) kept
+    pub parts : stamps_between asked.inquiry.from asked.inquiry.to b ≡ stamps ++ stamps_between left asked.inquiry.to b
+    pub failing : AreFailing asked b before stamps failures
+    pub known : Knows asked b (before ++ stamps) kept
 
   -- The stamps before those that are left were looked at, and the lines of what fails are told.
   pub record HasExamined {B : Type 0} (g : Ghosts B) (old now : B) (kept kept' : Kept) (err err' : Option (List ℕ))
@@ -145,10 +145,10 @@ module _ (inquiry : Inquiry) where
     pub agreed : agree ≡ true → (failures ≡ []) × (err' ≡ err)
     pub failed : agree ≡ false → failures ≢ []
     pub examined : g.honest now → (b : History) → Stands g b old
-        → (before : List StampRow) → Knows inquiry b before kept → Examined b before failures kept' left
+        → (before : List StampRow) → Knows asked b before kept → Examined b before failures kept' left
 
   pub begun : {B : Type 0} (g : Ghosts B) (store : B) (kept : Kept) (err : Option (List ℕ))
-      → HasExamined g store store kept kept err err inquiry.from true
+      → HasExamined g store store kept kept err err asked.inquiry.from true
   begun g store kept err = record {
     looks = looks_not g store;
     failures = [];
@@ -159,7 +159,7 @@ module _ (inquiry : Inquiry) where
       stamps = [];
       parts = refl;
       failing = refl;
-      known = subst (λ (rows : List StampRow). Knows inquiry b rows kept) (sym (append-nil before)) known;
+      known = subst (λ (rows : List StampRow). Knows asked b rows kept) (sym (append-nil before)) known;
     };
   }
 
@@ -167,7 +167,7 @@ module _ (inquiry : Inquiry) where
   abbrev pub IsNext : {B : Type 0} → Ghosts B → (now next : B) → (left left' : ℕ) → StampRow → Type 0
   IsNext g now next left left' stamp =
       g.honest next → (b : History) → Stands g b now
-      → stamps_between left inquiry.to b ≡ stamp ∷ stamps_between left' inquiry.to b
+      → stamps_between left asked.inquiry.to b ≡ stamp ∷ stamps_between left' asked.inquiry.to b
 
   -- the next stamp, and what is found of it
   pub record Follows {B : Type 0} (g : Ghosts B) (now next : B) (kept kept' : Kept) (left left' : ℕ) (stamp : StampRow)
@@ -179,12 +179,12 @@ module _ (inquiry : Inquiry) where
   pub follows : {B : Type 0} (g : Ghosts B) (now mid next : B) (kept kept' : Kept) (left : ℕ) (o : Option Stamp)
       (stamp : Stamp) (found : Findings)
       → o ≡ Some stamp → OnlyLooks g now mid → OnlyLooks g mid next
-      → (g.honest mid → (b : History) → Stands g b now → IsNextStamp left inquiry.to b o)
+      → (g.honest mid → (b : History) → Stands g b now → IsNextStamp left asked.inquiry.to b o)
       → IsFoundBy g mid next kept kept' (stamp_view stamp) found
       → Follows g now next kept kept' left (stamp.serial + 1) (stamp_view stamp) found
   follows g now mid next kept kept' left o stamp found some first second is by = record {
     looks = looks_after g now mid next first second;
-    is = λ h b s. next_is left inquiry.to b o stamp some (is (second.honest h) b s);
+    is = λ h b s. next_is left asked.inquiry.to b o stamp some (is (second.honest h) b s);
     by = λ h b s rows known. by h b (first.stands b s) rows known;
   }
 
@@ -196,7 +196,7 @@ module _ (inquiry : Inquiry) where
     own = failures_of stamp.serial found
 
     -- with this one
-    examined_next : g.honest next → (b : History) → Stands g b old → (rows : List StampRow) → Knows inquiry b rows kept
+    examined_next : g.honest next → (b : History) → Stands g b old → (rows : List StampRow) → Knows asked b rows kept
         → Examined b rows (before.failures ++ own) kept'' left'
     examined_next h b s rows known =
         let was = before.examined (after.looks.honest h) b s rows known in
@@ -204,10 +204,10 @@ module _ (inquiry : Inquiry) where
         let here = after.by h b stands (rows ++ was.stamps) was.known in
         record {
           stamps = was.stamps ++ stamp ∷ [];
-          parts = split_next (stamps_between inquiry.from inquiry.to b) was.stamps (stamps_between left inquiry.to b)
-              (stamps_between left' inquiry.to b) stamp was.parts (after.is h b stands);
+          parts = split_next (stamps_between asked.inquiry.from asked.inquiry.to b) was.stamps (stamps_between left asked.inquiry.to b)
+              (stamps_between left' asked.inquiry.to b) stamp was.parts (after.is h b stands);
           failing = failing_next b rows was.stamps before.failures stamp found was.failing here.0;
-          known = subst (λ (l : List StampRow). Knows inquiry b l kept'') (append_assoc rows was.stamps (stamp ∷ []))
+          known = subst (λ (l : List StampRow). Knows asked b l kept'') (append_assoc rows was.stamps (stamp ∷ []))
               here.1;
         }
 
@@ -254,12 +254,12 @@ module _ (inquiry : Inquiry) where
           )
 
       pub cut_off : IsCutOff err' err'' (failing_lines own) → g.honest next → (b : History) → Stands g b old
-          → (rows : List StampRow) → Knows inquiry b rows kept → ExaminesBehind inquiry b rows err err'' false
+          → (rows : List StampRow) → Knows asked b rows kept → ExaminesBehind asked b rows err err'' false
       cut_off cut h b s rows known =
           let seen = examined_next h b s rows known in
           record {
             examined = seen.stamps;
-            left = stamps_between left' inquiry.to b;
+            left = stamps_between left' asked.inquiry.to b;
             parts = seen.parts;
             failures = before.failures ++ own;
             failing = seen.failing;
@@ -276,9 +276,9 @@ module _ (inquiry : Inquiry) where
   pub ended : {B : Type 0} (g : Ghosts B) (old now next : B) (kept kept' : Kept) (err err' : Option (List ℕ))
       (left : ℕ) (agree : Bool)
       → HasExamined g old now kept kept' err err' left agree → OnlyLooks g now next
-      → (g.honest next → (b : History) → Stands g b now → stamps_between left inquiry.to b ≡ [])
-      → g.honest next → (b : History) → Stands g b old → (rows : List StampRow) → Knows inquiry b rows kept
-      → ExaminesBehind inquiry b rows err err' agree
+      → (g.honest next → (b : History) → Stands g b now → stamps_between left asked.inquiry.to b ≡ [])
+      → g.honest next → (b : History) → Stands g b old → (rows : List StampRow) → Knows asked b rows kept
+      → ExaminesBehind asked b rows err err' agree
   ended g old now next kept kept' err err' left agree before looks none h b s rows known =
       let was = before.examined (looks.honest h) b s rows known in
       let last = none h b (before.looks.stands b s) in

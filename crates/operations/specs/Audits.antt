@@ -2,11 +2,11 @@
 use Rattle.std.specs.Prelude.{◌≡◌, ◌≢◌, ◌⊎◌, ◌↔◌, ℕ, ◌<◌, Bool, true, false, List, [], ◌∷◌, ◌++◌, IfErr, IfOk, OnOk}
 use Rattle.std.specs.Prelude.{IsTrue, MatchResult, Option, None, Some, Result, codes, if◌then◌else◌, length, map, take}
 use Rattle.std.specs.{Fmt.decimal, Io.KnownBytes.Appends, List.flat_map}
-use Rattle.audit.specs.{Auditor.IsAllowed, Auditor.IsMet, Consistent.IsConsistent, Fault.count_after, Intact.IsIntact}
+use Rattle.audit.specs.{Auditor.IsMet, Consistent.IsConsistent, Fault.count_after, Intact.IsIntact}
 use Rattle.audit.specs.{Extract.extract_text, Extract.lines_text, declared.fault.ExtractFault.ExtractFault}
-use Rattle.audit.specs.Auditor as auditor
+use Rattle.audit.specs.Inquiries as inquiry
 use Rattle.audit.specs.declared.fault.ExtractFault.TheVariants as extract
-use Rattle.policy.specs.View.{account_view, policy_view}
+use Rattle.policy.specs.View.{policy_view}
 use Rattle.book.specs.Fault as book
 use Rattle.book.specs.declared.fault.StoreFault.TheVariants as store
 use Rattle.book.specs.History.{History, stamps_between}
@@ -14,13 +14,14 @@ use Rattle.book.specs.{declared.standing.Standing.Ghosts, Identities.identities,
 use Rattle.book.specs.{Rows.StampRow, Stands.OnlyLooks, Stands.Stands, Values.identity_view}
 use Rattle.judgement.specs.{Judged.IsJudgedBehind, Readings.evidence_in, Texts.judgement_text}
 use Rattle.judgement.specs.{declared.judgement.Judgement.Judgement, declared.judgement.Judgement.TheVariants.Given}
-use Rattle.operations.specs.{Kept.IsKept, Kept.rows_before, declared.audits.Inquiry.Inquiry, declared.kept.Kept.Kept}
+use Rattle.operations.specs.{Kept.IsKept, Kept.rows_before, declared.audits.Examination.Examination}
+use Rattle.operations.specs.{declared.kept.Kept.Kept}
 use Rattle.operations.specs.{declared.audits.AuditFault.AuditFault, declared.audits.Findings.Findings}
 use Rattle.operations.specs.declared.audits.AuditFault.TheVariants as fault
 
 -- stamps are looked at more closely than their extract wants
-abbrev pub IsExamining : Inquiry → Type 0
-IsExamining inquiry = (inquiry.check ≡ true) ⊎ (inquiry.judge ≡ true)
+abbrev pub IsExamining : Examination → Type 0
+IsExamining asked = (asked.check ≡ true) ⊎ (asked.judge ≡ true)
 
 -- what fails: the row of a serial number, or the deposit of that number; or how the row is judged, which isn't given by
 -- the rules
@@ -54,24 +55,24 @@ failures_of serial found =
 -- What is found of a stamp behind the rows before it. Where stamps are checked, its row passes if its octets say what
 -- it and the identities say, and its deposit if that is intact, or isn't there. Where they are judged, it is judged by
 -- the rules of the policy file.
-pub record IsFound (inquiry : Inquiry) (b : History) (before : List StampRow) (stamp : StampRow) (found : Findings)
+pub record IsFound (asked : Examination) (b : History) (before : List StampRow) (stamp : StampRow) (found : Findings)
     : Type 0 where
-  pub row : inquiry.check ≡ true → IsTrue found.row ↔ IsConsistent stamp (identities b)
-  pub deposit : inquiry.check ≡ true → IsTrue found.deposit ↔ IsIntact (deposit_with_stamp stamp.serial b)
-  pub unchecked : inquiry.check ≡ false → (found.row ≡ true) × (found.deposit ≡ true)
-  pub judged : inquiry.judge ≡ true
-      → IsJudgedBehind (evidence_in (policy_view inquiry.policy.now) b) before stamp found.judged
-  pub unjudged : inquiry.judge ≡ false → found.judged ≡ None
+  pub row : asked.check ≡ true → IsTrue found.row ↔ IsConsistent stamp (identities b)
+  pub deposit : asked.check ≡ true → IsTrue found.deposit ↔ IsIntact (deposit_with_stamp stamp.serial b)
+  pub unchecked : asked.check ≡ false → (found.row ≡ true) × (found.deposit ≡ true)
+  pub judged : asked.judge ≡ true
+      → IsJudgedBehind (evidence_in (policy_view asked.inquiry.policy.now) b) before stamp found.judged
+  pub unjudged : asked.judge ≡ false → found.judged ≡ None
 
 -- these are the failures of stamps behind the rows before them, in their order
-abbrev pub AreFailing : Inquiry → History → (before stamps : List StampRow) → List Failure → Type 0
-AreFailing inquiry b before [] failures = failures ≡ []
-AreFailing inquiry b before (stamp ∷ stamps) failures =
+abbrev pub AreFailing : Examination → History → (before stamps : List StampRow) → List Failure → Type 0
+AreFailing asked b before [] failures = failures ≡ []
+AreFailing asked b before (stamp ∷ stamps) failures =
     (found : Findings)
-    × IsFound inquiry b before stamp found
+    × IsFound asked b before stamp found
     × ((others : List Failure)
     × (failures ≡ failures_of stamp.serial found ++ others)
-    × AreFailing inquiry b (before ++ stamp ∷ []) stamps others)
+    × AreFailing asked b (before ++ stamp ∷ []) stamps others)
 
 -- a beginning of the text was written, and not all of it
 abbrev pub IsCutOff : Option (List ℕ) → Option (List ℕ) → List ℕ → Type 0
@@ -79,20 +80,20 @@ IsCutOff old new text = (n : ℕ) × (n < length text) × Appends old new (take 
 
 -- Each stamp of the range was looked at behind these rows, as far as that is asked, and what fails is told; but where a
 -- write fails the stamps after it aren't looked at.
-pub record ExaminesBehind (inquiry : Inquiry) (b : History) (before : List StampRow) (old new : Option (List ℕ))
+pub record ExaminesBehind (asked : Examination) (b : History) (before : List StampRow) (old new : Option (List ℕ))
     (agree : Bool) : Type 0 where
   pub examined : List StampRow
   pub left : List StampRow
-  pub parts : stamps_between inquiry.from inquiry.to b ≡ examined ++ left
+  pub parts : stamps_between asked.inquiry.from asked.inquiry.to b ≡ examined ++ left
   pub failures : List Failure
-  pub failing : AreFailing inquiry b before examined failures
+  pub failing : AreFailing asked b before examined failures
   pub told : ((left ≡ []) × Appends old new (failing_lines failures)) ⊎ IsCutOff old new (failing_lines failures)
   pub agreed : agree ≡ true → (failures ≡ []) × (left ≡ [])
   pub failed : agree ≡ false → failures ≢ []
 
 -- behind all rows with lower serial numbers
-abbrev pub Examines : Inquiry → History → (old new : Option (List ℕ)) → Bool → Type 0
-Examines inquiry b old new agree = ExaminesBehind inquiry b (rows_before inquiry.from b) old new agree
+abbrev pub Examines : Examination → History → (old new : Option (List ℕ)) → Bool → Type 0
+Examines asked b old new agree = ExaminesBehind asked b (rows_before asked.inquiry.from b) old new agree
 
 -- the lines of some failures were written, of none maybe
 abbrev pub TellsFailing : Option (List ℕ) → Option (List ℕ) → Type 0
@@ -133,52 +134,49 @@ CountsAudit done before after =
     MatchResult done (λ _. after ≡ before) (λ refused. after ≡ count_after_audit refused before)
 
 -- an auditor asks, and for a range
-abbrev pub Allows : Inquiry → Type 0
-Allows inquiry =
-    IsAllowed (policy_view inquiry.policy.now) (account_view inquiry.account.now) inquiry.from inquiry.to
+abbrev pub Allows : Examination → Type 0
+Allows asked = inquiry.Allows asked.inquiry
 
 -- where each refusal of an extract comes
-abbrev pub ComesWhere : Inquiry → AuditFault → Type 0
-ComesWhere inquiry refused =
-    (refusal : ExtractFault) → refused ≡ fault.Extract refusal
-    → auditor.ComesWhere (policy_view inquiry.policy.now) (account_view inquiry.account.now) inquiry.from inquiry.to
-    refusal
+abbrev pub ComesWhere : Examination → AuditFault → Type 0
+ComesWhere asked refused =
+    (refusal : ExtractFault) → refused ≡ fault.Extract refusal → inquiry.ComesFor asked.inquiry refusal
 
 -- What a refused audit leaves of its output and of what it tells: nothing; a beginning of an extract; or a whole one,
 -- and the lines of what failed before the stamps couldn't be looked at.
-abbrev pub Leaves : Inquiry → (out out' told told' : Option (List ℕ)) → AuditFault → Type 0
-Leaves inquiry out out' told told' refused =
+abbrev pub Leaves : Examination → (out out' told told' : Option (List ℕ)) → AuditFault → Type 0
+Leaves asked out out' told told' refused =
     ((out' ≡ out) × (told' ≡ told))
-    ⊎ ((IsExtractFault refused × Allows inquiry × BeginsExtract out out' × (told' ≡ told))
-    ⊎ (IsExamining inquiry
+    ⊎ ((IsExtractFault refused × Allows asked × BeginsExtract out out' × (told' ≡ told))
+    ⊎ (IsExamining asked
     × IsCheckFault refused
-    × Allows inquiry
+    × Allows asked
     × WritesExtract out out'
     × TellsFailing told told'))
 
 -- What is known of an audit and its answer: whether nothing fails, or the refusal.
-abbrev pub IsAudited : Inquiry → (out out' told told' : Option (List ℕ)) → Result Bool AuditFault → Type 0
-IsAudited inquiry out out' told told' done =
-    IfOk done (λ agree. Allows inquiry
+abbrev pub IsAudited : Examination → (out out' told told' : Option (List ℕ)) → Result Bool AuditFault → Type 0
+IsAudited asked out out' told told' done =
+    IfOk done (λ agree. Allows asked
     × WritesExtract out out'
     × (agree ≡ true → told' ≡ told)
-    × (agree ≡ false → IsExamining inquiry × TellsSome told told'))
-    × IfErr done (λ refused. ComesWhere inquiry refused × Leaves inquiry out out' told told' refused)
+    × (agree ≡ false → IsExamining asked × TellsSome told told'))
+    × IfErr done (λ refused. ComesWhere asked refused × Leaves asked out out' told told' refused)
 
 -- An audit of a book: it changes nowhere but in its count of faults, and while it returns what was written, an answer
 -- comes with the extract of each history that it stood for, and, where that is asked, with what fails of its stamps.
-pub record IsAuditOf {B : Type 0} (g : Ghosts B) (inquiry : Inquiry) (old new : B)
+pub record IsAuditOf {B : Type 0} (g : Ghosts B) (asked : Examination) (old new : B)
     (out out' told told' : Option (List ℕ)) (done : Result Bool AuditFault) : Type 0 where
   pub looks : OnlyLooks g old new
   pub whole : g.honest new → (b : History) → Stands g b old
-      → OnOk done (Appends out out' (extract_text inquiry.from inquiry.to b))
-  pub examined : g.honest new → (b : History) → Stands g b old → IsExamining inquiry
-      → IfOk done (Examines inquiry b told told')
+      → OnOk done (Appends out out' (extract_text asked.inquiry.from asked.inquiry.to b))
+  pub examined : g.honest new → (b : History) → Stands g b old → IsExamining asked
+      → IfOk done (Examines asked b told told')
   pub faults : CountsAudit done (g.fault_count old) (g.fault_count new)
 
 -- ---- on the way
 
--- what is kept is the history's, as far as the inquiry needs it, with what these rows say
-pub record Knows (inquiry : Inquiry) (b : History) (rows : List StampRow) (kept : Kept) : Type 0 where
+-- what is kept is the history's, as far as the asked needs it, with what these rows say
+pub record Knows (asked : Examination) (b : History) (rows : List StampRow) (kept : Kept) : Type 0 where
   pub installed : map identity_view kept.identities.items ≡ identities b
-  pub kept_is : inquiry.judge ≡ true → IsKept b rows kept
+  pub kept_is : asked.judge ≡ true → IsKept b rows kept

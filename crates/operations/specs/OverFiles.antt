@@ -15,7 +15,8 @@ use Rattle.store.specs.Stands.{Stands as StandsOver, over_tables}
 use Rattle.desk.specs.{Command.Setting, MachineRuns.Journey, MachineRuns.Told}
 use Rattle.operations.specs.Continuation.{Continues, GoesOver, IsRefused}
 use Rattle.operations.specs.declared.fault.ContinuationFault.TheVariants.{Unopened}
-use Rattle.operations.specs.{Audits.IsAuditOf, declared.audits.AuditFault.AuditFault, declared.audits.Inquiry.Inquiry}
+use Rattle.operations.specs.{Audits.IsAuditOf, declared.audits.AuditFault.AuditFault}
+use Rattle.operations.specs.{declared.audits.Examination.Examination}
 use Rattle.operations.specs.{declared.fault.ContinuationFault.ContinuationFault, declared.void_stamp.Floor.Floor}
 
 -- nothing more is known of it
@@ -71,9 +72,9 @@ module _ {D : Type 0} (disk : Ghosts D) (held : Image) where
       × IsLeftOver disk (Does (over_tables over_files) opened)
 
   -- its stamps were extracted and checked
-  abbrev pub IsAuditedOver : Inquiry → (out out' told told' : Option (List ℕ)) → Result Bool AuditFault → Type 0
-  IsAuditedOver inquiry out out' told told' done =
-      IsDoneOver (λ g opened left. IsAuditOf g inquiry opened left out out' told told' done)
+  abbrev pub IsAuditedOver : Examination → (out out' told told' : Option (List ℕ)) → Result Bool AuditFault → Type 0
+  IsAuditedOver asked out out' told told' done =
+      IsDoneOver (λ g opened left. IsAuditOf g asked opened left out out' told told' done)
 
   -- its history goes on in one that was made over other files, and closed as it was made
   abbrev pub IsContinuedOver : {E : Type 0} → Ghosts E → Option Floor → Type 0

@@ -17,24 +17,17 @@ ghost use Rattle.policy.specs.View.{policy_view};
 use crate::database::{Database, DatabaseFiles};
 use crate::kept::{Kept, kept_before};
 use crate::operation::{Operation, perform_at};
-use audit::{ExtractFault, check_deposit, check_row, extract, write_octets};
+use audit::{ExtractFault, Inquiry, check_deposit, check_row, extract, write_octets};
 use book::{Book, Stamp, StoreFault};
 use judgement::{Judgement, Past};
-use policy::{Account, Policy};
 use std::alloc::{AllocError, Global};
 use std::io::Write;
 
-/// Of which stamps an account asks for an extract.
+/// What is asked of an audit: an extract, and how its stamps are examined.
 #[derive(Clone, Copy)]
-pub struct Inquiry<'a> {
-    /// The policy file.
-    pub policy: &'a Policy,
-    /// The account that asks.
-    pub account: &'a Account,
-    /// The first serial number.
-    pub from: u64,
-    /// The last serial number.
-    pub to: u64,
+pub struct Examination<'a> {
+    /// Of which stamps an account asks for an extract.
+    pub inquiry: Inquiry<'a>,
     /// Whether each stamp is checked as well, with its deposit.
     pub check: bool,
     /// Whether each stamp is judged again as well, by the rules of the policy file.
@@ -58,13 +51,13 @@ impl From<StoreFault> for AuditFault {
     }
 }
 
-impl<O: Write, E: Write> Operation<O, E> for Inquiry<'_> {
+impl<O: Write, E: Write> Operation<O, E> for Examination<'_> {
     type Answer = Result<bool, AuditFault>;
 
-    ghost answers = { λ inquiry out out' told told' done. IsAudited inquiry (O.contents out) (O.contents out')
+    ghost answers = { λ asked out out' told told' done. IsAudited asked (O.contents out) (O.contents out')
         (E.contents told) (E.contents told') done };
 
-    ghost moves = { λ _ g inquiry old new out out' told told' done. IsAuditOf g inquiry old new (O.contents out)
+    ghost moves = { λ _ g asked old new out out' told told' done. IsAuditOf g asked old new (O.contents out)
         (O.contents out') (E.contents told) (E.contents told') done };
 
     fn perform<B: Book + Drop>(
@@ -87,60 +80,60 @@ impl<O: Write, E: Write> Operation<O, E> for Inquiry<'_> {
 pub fn audit<F: DatabaseFiles, O: Write, E: Write>(
     alloc: Global,
     database: Database<'_, F>,
-    inquiry: &Inquiry<'_>,
+    asked: &Examination<'_>,
     output: &mut O,
     errors: &mut E,
 ) -> Result<bool, AuditFault>
-    ensures allowed { IfOk result (λ _. Allows inquiry.now) }
+    ensures allowed { IfOk result (λ _. Allows asked.now) }
     ensures extracted { OnOk result (WritesExtract (O.contents output.old) (O.contents output.new)) }
 
     // Whatever the files hold: the store that was opened over them is audited, changes nowhere, and is closed.
-    ensures audited { IfOk result (λ _. IsAuditedOver F.Disk.Disk F.held inquiry.now
+    ensures audited { IfOk result (λ _. IsAuditedOver F.Disk.Disk F.held asked.now
         (O.contents output.old) (O.contents output.new) (E.contents errors.old) (E.contents errors.new) result) }
 
     // Where it is refused, no store was opened, by that refusal, or it was audited so far.
     ensures unaudited { IfErr result (λ fault.
         IsUnopenedAs Store (F.refuses database.entry.files database.entry.path.now) fault
-        ⊎ IsAuditedOver F.Disk.Disk F.held inquiry.now (O.contents output.old) (O.contents output.new)
+        ⊎ IsAuditedOver F.Disk.Disk F.held asked.now (O.contents output.old) (O.contents output.new)
         (E.contents errors.old) (E.contents errors.new) result) }
     ensures agreed { IfOk result (λ agree. agree ≡ true → E.contents errors.new ≡ E.contents errors.old) }
     ensures failed { IfOk result (λ agree. agree ≡ false
-        → IsExamining inquiry.now × TellsSome (E.contents errors.old) (E.contents errors.new)) }
-    ensures comes { IfErr result (ComesWhere inquiry.now) }
-    ensures refused { IfErr result (Leaves inquiry.now (O.contents output.old) (O.contents output.new)
+        → IsExamining asked.now × TellsSome (E.contents errors.old) (E.contents errors.new)) }
+    ensures comes { IfErr result (ComesWhere asked.now) }
+    ensures refused { IfErr result (Leaves asked.now (O.contents output.old) (O.contents output.new)
         (E.contents errors.old) (E.contents errors.new)) }
 {
-    perform_at(alloc, database, *inquiry, output, errors)?
+    perform_at(alloc, database, *asked, output, errors)?
 }
 
 /// Writes the extract of a book, and then examines its stamps where that is asked.
 fn audit_book<B: Book + Drop, O: Write, E: Write>(
     alloc: Global,
     book: &mut B,
-    inquiry: &Inquiry<'_>,
+    asked: &Examination<'_>,
     output: &mut O,
     errors: &mut E,
 ) -> Result<bool, AuditFault>
     ensures looks { OnlyLooks B.Standing book.old book.new }
     ensures whole { B.honest book.new → (b : History) → Stands B.Standing b book.old → OnOk result (Appends
-        (O.contents output.old) (O.contents output.new) (extract_text inquiry.now.from inquiry.now.to b)) }
-    ensures examined { B.honest book.new → (b : History) → Stands B.Standing b book.old → IsExamining inquiry.now
-        → IfOk result (Examines inquiry.now b (E.contents errors.old) (E.contents errors.new)) }
-    ensures allowed { IfOk result (λ _. Allows inquiry.now) }
+        (O.contents output.old) (O.contents output.new) (extract_text asked.now.inquiry.from asked.now.inquiry.to b)) }
+    ensures examined { B.honest book.new → (b : History) → Stands B.Standing b book.old → IsExamining asked.now
+        → IfOk result (Examines asked.now b (E.contents errors.old) (E.contents errors.new)) }
+    ensures allowed { IfOk result (λ _. Allows asked.now) }
     ensures extracted { OnOk result (WritesExtract (O.contents output.old) (O.contents output.new)) }
     ensures agreed { IfOk result (λ agree. agree ≡ true → E.contents errors.new ≡ E.contents errors.old) }
     ensures failed { IfOk result (λ agree. agree ≡ false
-        → IsExamining inquiry.now × TellsSome (E.contents errors.old) (E.contents errors.new)) }
-    ensures comes { IfErr result (ComesWhere inquiry.now) }
-    ensures refused { IfErr result (Leaves inquiry.now (O.contents output.old) (O.contents output.new)
+        → IsExamining asked.now × TellsSome (E.contents errors.old) (E.contents errors.new)) }
+    ensures comes { IfErr result (ComesWhere asked.now) }
+    ensures refused { IfErr result (Leaves asked.now (O.contents output.old) (O.contents output.new)
         (E.contents errors.old) (E.contents errors.new)) }
     ensures faults { CountsAudit result (B.fault_count book.old) (B.fault_count book.new) }
 {
-    write_extract(alloc, book, inquiry, output)?;
-    if !is_examining(inquiry) {
+    write_extract(alloc, book, asked, output)?;
+    if !is_examining(asked) {
         return Ok(true);
     }
-    match examine_stamps(alloc, book, inquiry, errors) {
+    match examine_stamps(alloc, book, asked, errors) {
         Ok(agree) => Ok(agree),
         Err(ExtractFault::Memory) => Err(AuditFault::Extract(ExtractFault::Memory)),
         // No other refusal of a walk over stamps is told than the database's.
@@ -149,36 +142,36 @@ fn audit_book<B: Book + Drop, O: Write, E: Write>(
 }
 
 /// Whether stamps are looked at more closely than their extract wants.
-fn is_examining(inquiry: &Inquiry<'_>) -> bool
-    ensures { IsTrue result ↔ IsExamining inquiry.now }
+fn is_examining(asked: &Examination<'_>) -> bool
+    ensures { IsTrue result ↔ IsExamining asked.now }
 {
-    inquiry.check || inquiry.judge
+    asked.check || asked.judge
 }
 
 /// Writes the extract of a book, and has the output send what it keeps.
 fn write_extract<B: Book + Drop, O: Write>(
     alloc: Global,
     book: &mut B,
-    inquiry: &Inquiry<'_>,
+    asked: &Examination<'_>,
     output: &mut O,
 ) -> Result<(), AuditFault>
     ensures looks { OnlyLooks B.Standing book.old book.new }
     ensures whole { B.honest book.new → (b : History) → Stands B.Standing b book.old → OnOk result (Appends
-        (O.contents output.old) (O.contents output.new) (extract_text inquiry.now.from inquiry.now.to b)) }
-    ensures allowed { IfOk result (λ _. Allows inquiry.now) }
+        (O.contents output.old) (O.contents output.new) (extract_text asked.now.inquiry.from asked.now.inquiry.to b)) }
+    ensures allowed { IfOk result (λ _. Allows asked.now) }
     ensures extracted { OnOk result (WritesExtract (O.contents output.old) (O.contents output.new)) }
-    ensures comes { IfErr result (ComesWhere inquiry.now) }
+    ensures comes { IfErr result (ComesWhere asked.now) }
     ensures refused { IfErr result (λ fault. (O.contents output.new ≡ O.contents output.old)
-        ⊎ (IsExtractFault fault × Allows inquiry.now × BeginsExtract (O.contents output.old) (O.contents output.new))) }
+        ⊎ (IsExtractFault fault × Allows asked.now × BeginsExtract (O.contents output.old) (O.contents output.new))) }
     ensures faults { CountsAudit result (B.fault_count book.old) (B.fault_count book.new) }
 {
     extract(
         alloc,
         book,
-        inquiry.policy,
-        inquiry.account,
-        inquiry.from,
-        inquiry.to,
+        asked.inquiry.policy,
+        asked.inquiry.account,
+        asked.inquiry.from,
+        asked.inquiry.to,
         output,
     )
     .map_err(AuditFault::Extract)?;
@@ -187,11 +180,11 @@ fn write_extract<B: Book + Drop, O: Write>(
         .or(Err(AuditFault::Extract(ExtractFault::Write)))
 }
 
-/// Examines each stamp of the inquiry's range, void ones too, and writes a line for each thing that fails: whether
-/// nothing does. N is the stamp's serial number.
+/// Examines each stamp of the range, void ones too, and writes a line for each thing that fails: whether nothing does.
+/// N is the stamp's serial number.
 ///
 /// A check writes `row N fails` where the stamp's octets don't say what its row and the identity of its serial number
-/// say, and `deposit N fails` where its deposit isn't what was stamped. A judgement is by the rules of the inquiry's
+/// say, and `deposit N fails` where its deposit isn't what was stamped. A judgement is by the rules of the audit's
 /// policy file, and by all rows with lower numbers, those before the range too: `row N isn't given by these rules: rule
 /// R` names the first rule that fails under the reading of the clock that comes furthest, and ends with `text` where no
 /// rule fails, but the row, or the TSTInfo in it, is another. `row N may have been held` stands apart: the stamp would
@@ -203,12 +196,12 @@ fn write_extract<B: Book + Drop, O: Write>(
 pub fn examine_stamps<B: Book + Drop, E: Write>(
     alloc: Global,
     book: &mut B,
-    inquiry: &Inquiry<'_>,
+    asked: &Examination<'_>,
     errors: &mut E,
 ) -> Result<bool, ExtractFault>
     ensures looks { OnlyLooks B.Standing book.old book.new }
     ensures examined { B.honest book.new → (b : History) → Stands B.Standing b book.old
-        → IfOk result (Examines inquiry.now b (E.contents errors.old) (E.contents errors.new)) }
+        → IfOk result (Examines asked.now b (E.contents errors.old) (E.contents errors.new)) }
     ensures agreed { IfOk result (λ agree. agree ≡ true → E.contents errors.new ≡ E.contents errors.old) }
     ensures failed { IfOk result (λ agree. agree ≡ false
         → TellsSome (E.contents errors.old) (E.contents errors.new)) }
@@ -216,24 +209,24 @@ pub fn examine_stamps<B: Book + Drop, E: Write>(
     ensures refusals { IfErr result (λ e. (e ≡ ExtractFault.Memory) ⊎ (e ≡ ExtractFault.Store)) }
     ensures faults { CountsFaults result (B.fault_count book.old) (B.fault_count book.new) }
 {
-    let mut kept = kept_for(alloc, book, inquiry)?;
-    examine_each(alloc, book, inquiry, &mut kept, errors)
+    let mut kept = kept_for(alloc, book, asked)?;
+    examine_each(alloc, book, asked, &mut kept, errors)
 }
 
-/// What the inquiry's stamps are examined by: no more than the identities, where they aren't judged.
+/// What the stamps of an audit are examined by: no more than the identities, where they aren't judged.
 fn kept_for<B: Book>(
     alloc: Global,
     book: &mut B,
-    inquiry: &Inquiry<'_>,
+    asked: &Examination<'_>,
 ) -> Result<Kept, ExtractFault>
     ensures looks { OnlyLooks B.Standing book.old book.new }
     ensures value { B.honest book.new → (b : History) → Stands B.Standing b book.old
-        → IfOk result (Knows inquiry.now b (rows_before inquiry.now.from b)) }
+        → IfOk result (Knows asked.now b (rows_before asked.now.inquiry.from b)) }
     ensures refusals { IfErr result (λ e. (e ≡ ExtractFault.Memory) ⊎ (e ≡ ExtractFault.Store)) }
     ensures faults { CountsFaults result (B.fault_count book.old) (B.fault_count book.new) }
 {
-    if inquiry.judge {
-        return Ok(kept_before(alloc, book, inquiry.from)?);
+    if asked.judge {
+        return Ok(kept_before(alloc, book, asked.inquiry.from)?);
     }
     let identities = book.identities()?;
     Ok(Kept {
@@ -244,18 +237,18 @@ fn kept_for<B: Book>(
     })
 }
 
-/// Examines the stamps of the inquiry's range behind the rows that are known.
+/// Examines the stamps of the range that is asked for behind the rows that are known.
 fn examine_each<B: Book + Drop, E: Write>(
     alloc: Global,
     book: &mut B,
-    inquiry: &Inquiry<'_>,
+    asked: &Examination<'_>,
     kept: &mut Kept,
     errors: &mut E,
 ) -> Result<bool, ExtractFault>
     ensures looks { OnlyLooks B.Standing book.old book.new }
     ensures examined { B.honest book.new → (b : History) → Stands B.Standing b book.old → (before : List StampRow)
-        → Knows inquiry.now b before kept.old
-        → IfOk result (ExaminesBehind inquiry.now b before (E.contents errors.old) (E.contents errors.new)) }
+        → Knows asked.now b before kept.old
+        → IfOk result (ExaminesBehind asked.now b before (E.contents errors.old) (E.contents errors.new)) }
     ensures agreed { IfOk result (λ agree. agree ≡ true → E.contents errors.new ≡ E.contents errors.old) }
     ensures failed { IfOk result (λ agree. agree ≡ false
         → TellsSome (E.contents errors.old) (E.contents errors.new)) }
@@ -264,9 +257,9 @@ fn examine_each<B: Book + Drop, E: Write>(
     ensures faults { CountsFaults result (B.fault_count book.old) (B.fault_count book.new) }
 {
     let mut agree = true;
-    let mut from = inquiry.from;
-    while let Some(stamp) = book.next_stamp(from, inquiry.to)? {
-        let found = examine(book, inquiry, kept, &stamp)?;
+    let mut from = asked.inquiry.from;
+    while let Some(stamp) = book.next_stamp(from, asked.inquiry.to)? {
+        let found = examine(book, asked, kept, &stamp)?;
         let failing = is_failing(stamp.serial, &found);
         if failing {
             agree = false;
@@ -293,20 +286,20 @@ struct Findings {
 /// What is found of the stamp that follows the rows which are known; its own is one of them from now on.
 fn examine<B: Book>(
     book: &mut B,
-    inquiry: &Inquiry<'_>,
+    asked: &Examination<'_>,
     kept: &mut Kept,
     stamp: &Stamp,
 ) -> Result<Findings, ExtractFault>
     ensures looks { OnlyLooks B.Standing book.old book.new }
     ensures found { B.honest book.new → (b : History) → Stands B.Standing b book.old → (rows : List StampRow)
-        → Knows inquiry.now b rows kept.old
-        → IfOk result (λ found. IsFound inquiry.now b rows (stamp_view stamp.now) found
-        × Knows inquiry.now b (rows ++ stamp_view stamp.now ∷ []) kept.new) }
+        → Knows asked.now b rows kept.old
+        → IfOk result (λ found. IsFound asked.now b rows (stamp_view stamp.now) found
+        × Knows asked.now b (rows ++ stamp_view stamp.now ∷ []) kept.new) }
     ensures refusals { IfErr result (λ e. (e ≡ ExtractFault.Memory) ⊎ (e ≡ ExtractFault.Store)) }
     ensures faults { CountsFaults result (B.fault_count book.old) (B.fault_count book.new) }
 {
-    let judged = judge_next(inquiry, kept, stamp)?;
-    if !inquiry.check {
+    let judged = judge_next(asked, kept, stamp)?;
+    if !asked.check {
         return Ok(Findings {
             row: true,
             deposit: true,
@@ -324,22 +317,22 @@ fn examine<B: Book>(
 
 /// How the stamp that follows the rows which are known is judged, where that is asked; it is one of them then.
 fn judge_next(
-    inquiry: &Inquiry<'_>,
+    asked: &Examination<'_>,
     kept: &mut Kept,
     stamp: &Stamp,
 ) -> Result<Option<Judgement>, ExtractFault>
-    ensures judged { (b : History) (rows : List StampRow) → Knows inquiry.now b rows kept.old
-        → IfOk result (λ judged. (inquiry.now.judge ≡ true
-        → IsJudgedBehind (evidence_in (policy_view inquiry.now.policy.now) b) rows (stamp_view stamp.now) judged)
-        × Knows inquiry.now b (rows ++ stamp_view stamp.now ∷ []) kept.new) }
-    ensures unjudged { inquiry.now.judge ≡ false → IfOk result (λ judged. judged ≡ None) }
+    ensures judged { (b : History) (rows : List StampRow) → Knows asked.now b rows kept.old
+        → IfOk result (λ judged. (asked.now.judge ≡ true
+        → IsJudgedBehind (evidence_in (policy_view asked.now.inquiry.policy.now) b) rows (stamp_view stamp.now) judged)
+        × Knows asked.now b (rows ++ stamp_view stamp.now ∷ []) kept.new) }
+    ensures unjudged { asked.now.judge ≡ false → IfOk result (λ judged. judged ≡ None) }
     ensures identities { kept.new.identities ≡ kept.old.identities }
     ensures refusals { IfErr result (λ e. e ≡ ExtractFault.Memory) }
 {
-    if !inquiry.judge {
+    if !asked.judge {
         return Ok(None);
     }
-    kept.judge_next(inquiry.policy, stamp)
+    kept.judge_next(asked.inquiry.policy, stamp)
 }
 
 /// Whether something fails of what is found.

@@ -19,7 +19,7 @@ mod signers;
 mod void_stamp;
 
 pub use addition::{Addition, add};
-pub use audits::{AuditFault, Inquiry, audit, examine_stamps};
+pub use audits::{AuditFault, Examination, audit, examine_stamps};
 pub use continuation::continue_in;
 pub use database::{Database, DatabaseFiles, OpenDatabase, init, migrate};
 pub use desk_operation::{DatabaseDesk, DeskOperation, SignedDesk, perform_at_desk};

@@ -16,7 +16,7 @@ returns-clause-extracted g c =
     (λ agree it. record {
       rules = read.0;
       rules_read = read.1;
-      inquiry = _;
+      asked = _;
       meant = read.2;
       named = c.in_ok-account.ensures.found;
       first = refl;
