@@ -24,6 +24,11 @@ WORDS = (
     "--no-proxy-server",
     "--mute-audio",
 )
+# two frames, or a tenth of a second where none is drawn
+FRAMES = """new Promise((done) => {
+  requestAnimationFrame(() => requestAnimationFrame(() => done(true)));
+  setTimeout(() => done(true), 100);
+})"""
 # of keys: code and the text that they type
 KEYS = {"Tab": (9, ""), "Enter": (13, "\r"), "Escape": (27, ""), "Space": (32, " ")}
 
@@ -183,10 +188,15 @@ class Browser:
         return self.call("DOM.querySelector", nodeId=root, selector=selector)["nodeId"]
 
     def middle(self, selector):
-        """Where the middle is of what is seen of an element, once that is in view."""
+        """Where the middle is of what is seen of an element, once that is in view and stays where it is: a window that
+        has its own size again is drawn anew only then, later on a busy machine."""
         node = self.node(selector)
         self.call("DOM.scrollIntoViewIfNeeded", nodeId=node)
-        quad = self.call("DOM.getContentQuads", nodeId=node)["quads"][0]
+        end, before, quad = time.monotonic() + SECONDS, None, []
+        while quad != before and time.monotonic() < end:
+            before = quad
+            self.evaluate(FRAMES)
+            quad = self.call("DOM.getContentQuads", nodeId=node)["quads"][0]
         return {"x": sum(quad[0::2]) / 4, "y": sum(quad[1::2]) / 4}
 
     def click(self, selector):

@@ -40,7 +40,8 @@ def texts(browser, folder, wrong):
 def at_part(browser, part, path):
     """Brings a part of the page to where a person would use it."""
     browser.click(f'a[href="#{part}"]')
-    browser.wait(f"!document.querySelector('#{part}').hidden")
+    if not browser.wait(f"!document.querySelector('#{part}').hidden"):
+        raise RuntimeError(f"the page doesn't come to {part}")
     if part == "stamp":
         browser.evaluate("document.querySelector('#stamp-results').replaceChildren()")
         browser.choose("#stamp-files", path)
