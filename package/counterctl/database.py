@@ -90,7 +90,7 @@ def of_tables(machine, file, copy):
     if tables is None:
         return f"{file} is no sound database", "counterctl restore FOLDER"
     version = copy.number("SELECT version FROM meta") if "meta" in tables else None
-    if version in (1, 2):
+    if version in range(1, SCHEMA):
         again = f"counterctl backup; systemctl stop counter; runuser -u counter -- counter migrate --db {file}"
         return f"{file} is of schema {version}, which an older counter made", again
     if version is not None and version != SCHEMA:

@@ -8,11 +8,10 @@ import shutil
 import subprocess
 
 from modules.load import GRANTED, REQUEST, members, moment_of, serial_of
-from modules.programs import CERTIFICATE, EXAMPLE, PROGRAM, sqlite
+from modules.programs import CERTIFICATE, EXAMPLE, PROGRAM, TABLES, sqlite
 
 GREATEST = 2**63 - 1
 DONE = (0, "")
-TABLES = ("calibration", "deposit", "group_reader", "hold", "identity", "meta", "reader", "stamp", "tally")
 # what is carried on, and with what it has to be equal
 STAMP = "account, day, gen, hex(policy) AS p, hex(algorithm) AS a, hex(digest) AS d, hex(request) AS r, hex(tst) AS t"
 LAST = f"SELECT serial, {STAMP}, hex(token) AS token FROM stamp ORDER BY serial DESC LIMIT 1"
@@ -78,7 +77,7 @@ def is_carried_on(old, new, wrong, when, above=None):
     for path, which in ((old, "the old one"), (new, "the new one")):
         is_sound(path, wrong, f"of {which} {when}")
     found = [row["name"] for row in sqlite(new, "SELECT name FROM sqlite_schema WHERE type = 'table' ORDER BY name")]
-    wrong.unless(f"tables {when}", found, list(TABLES))
+    wrong.unless(f"tables {when}", found, sorted(("meta", *TABLES)))
     if above:
         is_void_above(old, new, above, wrong, when)
     for what, query in (

@@ -21,7 +21,7 @@ import threading
 from modules.authority import Server, UnixServer
 from modules.exchanges import client, ended, key_holder, received, stopped
 from modules.load import GRANTED, gen_time_of, serial_of
-from modules.programs import ALGORITHM, CERTIFICATE, EXAMPLE, PROGRAM, compiled_library, octets_of, value
+from modules.programs import ALGORITHM, CERTIFICATE, EXAMPLE, PROGRAM, TABLES, compiled_library, octets_of, value
 
 # more connections than serve gets before it is killed
 ENDLESS = 2**32 - 1
@@ -49,7 +49,6 @@ daily_quota = 1000
 QUERY, FORM = "application/timestamp-query", "application/x-www-form-urlencoded"
 RULE = re.compile(rb"\x0c\x07rule (\d\d)\x03")
 FILES = "counter.db", "counter.db-wal"
-TABLES = "stamp", "tally", "calibration", "hold", "deposit", "reader", "group_reader", "identity"
 
 
 def text(**changes):

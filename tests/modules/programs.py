@@ -19,6 +19,9 @@ PROGRAM = os.path.join(CRATES, "counter", "out", "counter")
 KEY_HOLDER = os.path.join(ROOT, "key-holder", "out", "key-holder")
 EXAMPLE = os.path.join(ROOT, "docs", "example-policy.toml")
 DATA = os.path.join(TESTS, "data")
+# the schema of now, and its tables besides `meta`
+SCHEMA = 3
+TABLES = "stamp", "tally", "calibration", "hold", "deposit", "reader", "group_reader", "identity"
 # Debian's Python, for which Debian's packages are installed
 PYTHON = "/usr/bin/python3"
 # a line of `openssl asn1parse`: depth, kind and text
