@@ -114,7 +114,7 @@ ours_new = (refl, refl, (refl, refl, (refl, refl, (refl, refl, (refl, refl, (ref
 -- ---- the row of `meta`, over tables with no row
 
 abbrev pub version_terms : List Term
-version_terms = lit Null ∷ lit (Int (pos 3)) ∷ []
+version_terms = lit Null ∷ lit (Int (pos the_version)) ∷ []
 
 version_is : (command_of (understood the_schema insert_version) ≡ Insert 0 (Values version_terms 2))
     × IsPlain (understood the_schema insert_version)
@@ -122,7 +122,7 @@ unfolding understood everything
 version_is = (refl, (refl, refl))
 
 version_news : (db : Trees) → (edit_of db (placed_table name.Meta) [] Chosen 0 (value_rows [] 2 1 version_terms)).news
-    ≡ (Int (next_rowid (db 0)) ∷ version_cells 3) ∷ []
+    ≡ (Int (next_rowid (db 0)) ∷ version_cells the_version) ∷ []
 version_news db = simp (cast_int, cast_null)
 
 pub empty_rows : {X : Type 0} (keyed : _) (cells : X → Row) (rows : List Row) → rows ≡ []
@@ -139,8 +139,8 @@ versioned limit text db out empty does =
     record {
       schema = made.1;
       holds = framed db out.1.trees no_rows name.Meta made.0.tables others
-          (inserted version_cells (λ x e. cc) false [] 3 (db 0) (out.1.trees 0) _ (Int (next_rowid (db 0))
-          ∷ version_cells 3) (empty_rows false version_cells (db 0) (none name.Meta)) made.0.keyed made.0.fresh
+          (inserted version_cells (λ x e. cc) false [] the_version (db 0) (out.1.trees 0) _ (Int (next_rowid (db 0))
+          ∷ version_cells the_version) (empty_rows false version_cells (db 0) (none name.Meta)) made.0.keyed made.0.fresh
           made.0.rows (version_news db) refl) tt;
     }
   where

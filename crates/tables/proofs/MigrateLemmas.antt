@@ -87,19 +87,19 @@ module _ {before after : Version} {n : Name} (next : IsNext before after n) (old
 -- ---- the version is set
 
 abbrev set_program : Program
-set_program = program_of (tree_of name.Meta) [] (col 1 0 ∷ col 1 0 ∷ lit (Int (pos 3)) ∷ []) [] no_limit
+set_program = program_of (tree_of name.Meta) [] (col 1 0 ∷ col 1 0 ∷ lit (Int (pos the_version)) ∷ []) [] no_limit
 
 says_set : Says set_version (Update (place_of name.Meta) set_program)
 unfolding understood everything
 says_set = record { is = refl; plain = (refl, refl) }
 
-finished : (old new : State) (count : ℕ) (t : Tables) → IsOnTheWay 3 t old.now
+finished : (old new : State) (count : ℕ) (t : Tables) → IsOnTheWay the_version t old.now
     → ExecutesInside 0 set_version [] old new (Ok count) → IsDatabaseOf t new.now × IsDatabase new.now
 finished old new count t is ran =
     let it = did says_set [] (λ old new text count w. w) old new count is.schema ran in
     let rows = updates_rows version_cells (λ x e. cc) old.step_limit [] the_schema old.now.trees it.1
     (place_of name.Meta) idle _ _ _ _ _ _ _ (tree_of name.Meta) refl (it.0, new.now) false (is.says ∷ [])
-    (is.rows name.Meta refl) [] (λ _. true) (λ y. refl) (col 1 0 ∷ lit (Int (pos 3)) ∷ []) it.2 (λ _. 3)
+    (is.rows name.Meta refl) [] (λ _. true) (λ y. refl) (col 1 0 ∷ lit (Int (pos the_version)) ∷ []) it.2 (λ _. the_version)
     (λ y own ok typed. simp (cast_int, cast_null)) in (
       record {
         schema = rows.1.1;
@@ -113,7 +113,7 @@ finished old new count t is ran =
     others m apart = is.rows m refl
 
 set_never : (old new : State) (e : Error) → ExecutesInside 0 set_version [] old new (Err e) → (t : Tables)
-    → IsOnTheWay 3 t old.now → tells_taken e ≡ false
+    → IsOnTheWay the_version t old.now → tells_taken e ≡ false
 set_never old new e (inr ends) t is = ap tells_taken ends.1
 set_never old new e (inl (ran, left)) t is =
     let text = statement_of set_version (understood the_schema set_version) in
@@ -215,8 +215,8 @@ next_leads {before} {after} {n} next =
 
 pub set_leads : (old new : State) (result : Result ℕ Error) → Survives old new (λ _. ⊥)
     → (HasCleanDisk new → IsTrue old.in_transaction → ExecutesInside 0 set_version [] old new result)
-    → LeadsOn (IsOnTheWay 3) IsDatabaseOf old new result
-set_leads = leads (IsOnTheWay 3) IsDatabaseOf set_version finished set_never
+    → LeadsOn (IsOnTheWay the_version) IsDatabaseOf old new result
+set_leads = leads (IsOnTheWay the_version) IsDatabaseOf set_version finished set_never
 
 -- ---- one after the other
 

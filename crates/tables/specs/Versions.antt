@@ -40,7 +40,7 @@ columns_of version.Current = all_columns
 abbrev pub number_of : Version → ℕ
 number_of version.First = 1
 number_of version.Second = 2
-number_of version.Current = 3
+number_of version.Current = the_version
 
 -- the one row of `meta` is asked for
 abbrev pub version_query : List ℕ

@@ -11,24 +11,59 @@ use crate::fault::{OpenFault, Task};
 use book::Entry;
 use sqlite::{Alter, Connection, Error, Transaction};
 
-const MAKE_ALL: &str = "CREATE TABLE meta (version INTEGER NOT NULL) STRICT;\
-    CREATE TABLE stamp (serial INTEGER PRIMARY KEY, account TEXT NOT NULL, day INTEGER NOT NULL, gen INTEGER NOT NULL, \
-    policy BLOB NOT NULL, algorithm BLOB NOT NULL, digest BLOB NOT NULL, request BLOB NOT NULL, tst BLOB NOT NULL, \
-    token BLOB) STRICT;\
-    CREATE TABLE calibration (n INTEGER PRIMARY KEY, reading INTEGER NOT NULL, offset_us INTEGER NOT NULL, \
-    uncertainty INTEGER NOT NULL) STRICT;\
-    CREATE TABLE hold (n INTEGER PRIMARY KEY, from_us INTEGER NOT NULL, to_us INTEGER NOT NULL) STRICT;\
-    CREATE TABLE deposit (serial INTEGER PRIMARY KEY REFERENCES stamp (serial), owner TEXT NOT NULL, reference TEXT \
-    NOT NULL, bytes BLOB NOT NULL, UNIQUE (owner, reference)) STRICT;\
-    CREATE TABLE reader (serial INTEGER NOT NULL REFERENCES deposit (serial), account TEXT NOT NULL, PRIMARY KEY \
-    (serial, account)) STRICT;\
-    CREATE TABLE tally (account TEXT NOT NULL, day INTEGER NOT NULL, count INTEGER NOT NULL, PRIMARY KEY (account, \
-    day)) STRICT;\
-    CREATE TABLE group_reader (serial INTEGER NOT NULL REFERENCES deposit (serial), name TEXT NOT NULL, PRIMARY KEY \
-    (serial, name)) STRICT;\
-    CREATE TABLE identity (n INTEGER PRIMARY KEY, after_serial INTEGER NOT NULL, certificate BLOB NOT NULL, chain BLOB \
-    NOT NULL) STRICT;\
-    INSERT INTO meta (version) VALUES (3)";
+/// Hands a macro the text that makes each table, in the order of their places in the schema, and then the one that adds
+/// the row of `meta`.
+macro_rules! texts {
+    ($take:ident) => {
+        $take!(
+            "CREATE TABLE meta (version INTEGER NOT NULL) STRICT;",
+            "CREATE TABLE stamp (serial INTEGER PRIMARY KEY, account TEXT NOT NULL, day INTEGER NOT NULL, \
+            gen INTEGER NOT NULL, policy BLOB NOT NULL, algorithm BLOB NOT NULL, digest BLOB NOT NULL, \
+            request BLOB NOT NULL, tst BLOB NOT NULL, token BLOB) STRICT;",
+            "CREATE TABLE calibration (n INTEGER PRIMARY KEY, reading INTEGER NOT NULL, offset_us INTEGER NOT NULL, \
+            uncertainty INTEGER NOT NULL) STRICT;",
+            "CREATE TABLE hold (n INTEGER PRIMARY KEY, from_us INTEGER NOT NULL, to_us INTEGER NOT NULL) STRICT;",
+            "CREATE TABLE deposit (serial INTEGER PRIMARY KEY REFERENCES stamp (serial), owner TEXT NOT NULL, \
+            reference TEXT NOT NULL, bytes BLOB NOT NULL, UNIQUE (owner, reference)) STRICT;",
+            "CREATE TABLE reader (serial INTEGER NOT NULL REFERENCES deposit (serial), account TEXT NOT NULL, \
+            PRIMARY KEY (serial, account)) STRICT;",
+            "CREATE TABLE tally (account TEXT NOT NULL, day INTEGER NOT NULL, count INTEGER NOT NULL, \
+            PRIMARY KEY (account, day)) STRICT;",
+            "CREATE TABLE group_reader (serial INTEGER NOT NULL REFERENCES deposit (serial), name TEXT NOT NULL, \
+            PRIMARY KEY (serial, name)) STRICT;",
+            "CREATE TABLE identity (n INTEGER PRIMARY KEY, after_serial INTEGER NOT NULL, certificate BLOB NOT NULL, \
+            chain BLOB NOT NULL) STRICT;";
+            "INSERT INTO meta (version) VALUES (3)"
+        )
+    };
+}
+
+/// All of them, one after the other.
+macro_rules! joined {
+    ($($table:literal),*; $row:literal) => {
+        concat!($($table,)* $row)
+    };
+}
+
+/// Those that make the tables.
+macro_rules! of_tables {
+    ($($table:literal),*; $row:literal) => {
+        [$($table),*]
+    };
+}
+
+/// The one that adds the row of `meta`.
+macro_rules! of_row {
+    ($($table:literal),*; $row:literal) => {
+        $row
+    };
+}
+
+const MAKE_ALL: &str = texts!(joined);
+
+pub(crate) const MAKE_EACH: &[&str] = &texts!(of_tables);
+
+const INSERT_VERSION: &str = texts!(of_row);
 
 fn make_all<S: Alter>(tx: &mut Transaction<'_, S>) -> Result<(), Error>
     ensures same_reference { tx.new.conn.ghost_name ≡ tx.old.conn.ghost_name }

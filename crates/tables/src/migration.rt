@@ -5,19 +5,18 @@ ghost use Rattle.sqlite.specs.{Held.state, State.HasCleanDisk};
 ghost use Rattle.tables.specs.Layout.{IsDatabaseOf, IsDatabaseIn, IsOnTheWay};
 ghost use Rattle.tables.specs.Versions.{IsFoundIn, IsUntold, LooksAs, number_of, tells_taken};
 ghost use Rattle.tables.specs.declared.version.Version.{Version as Value};
-ghost use Rattle.tables.specs.{Migration.Migrates, Tables.Tables, Transaction.CommitsFrom, auxiliary.Steps.LeadsOn};
+ghost use Rattle.tables.specs.{Migration.Migrates, Schema.the_version, Tables.Tables, Transaction.CommitsFrom};
+ghost use Rattle.tables.specs.auxiliary.Steps.{LeadsOn};
 
+use crate::creation::MAKE_EACH;
 use crate::fault::{OpenFault, Task};
 use crate::version::{Version, found_version};
 use sqlite::{Alter, Connection, Error, Transaction};
 
-const MAKE_GROUP_READER: &str =
-    "CREATE TABLE group_reader (serial INTEGER NOT NULL REFERENCES deposit (serial), name TEXT NOT NULL, PRIMARY KEY \
-    (serial, name)) STRICT;";
+/// The places in the schema of the tables that later versions have.
+const GROUP_READER: usize = 7;
 
-const MAKE_IDENTITY: &str =
-    "CREATE TABLE identity (n INTEGER PRIMARY KEY, after_serial INTEGER NOT NULL, certificate BLOB NOT NULL, \
-    chain BLOB NOT NULL) STRICT;";
+const IDENTITY: usize = 8;
 
 const SET_VERSION: &str = "UPDATE meta SET version = 3";
 
@@ -27,7 +26,7 @@ fn make_group_readers<S: Alter>(tx: &mut Transaction<'_, S>) -> Result<usize, Er
     ensures leads { LeadsOn (IsOnTheWay 1) (IsOnTheWay 2) (state S.Store tx.old.conn.now)
         (state S.Store tx.new.conn.now) result }
 {
-    tx.execute(MAKE_GROUP_READER, &[])
+    tx.execute(MAKE_EACH[GROUP_READER], &[])
 }
 
 /// Makes what the third version has.
@@ -36,13 +35,13 @@ fn make_identities<S: Alter>(tx: &mut Transaction<'_, S>) -> Result<usize, Error
     ensures leads { LeadsOn (IsOnTheWay 2) (IsOnTheWay 3) (state S.Store tx.old.conn.now)
         (state S.Store tx.new.conn.now) result }
 {
-    tx.execute(MAKE_IDENTITY, &[])
+    tx.execute(MAKE_EACH[IDENTITY], &[])
 }
 
 /// Has `meta` say the version of now.
 fn set_version<S: Alter>(tx: &mut Transaction<'_, S>) -> Result<usize, Error>
     ensures same_reference { tx.new.conn.ghost_name ≡ tx.old.conn.ghost_name }
-    ensures leads { LeadsOn (IsOnTheWay 3) IsDatabaseOf (state S.Store tx.old.conn.now)
+    ensures leads { LeadsOn (IsOnTheWay the_version) IsDatabaseOf (state S.Store tx.old.conn.now)
         (state S.Store tx.new.conn.now) result }
 {
     tx.execute(SET_VERSION, &[])

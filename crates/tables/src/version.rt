@@ -12,8 +12,8 @@ use crate::queries::rows_of;
 use sqlite::types::ValueRef;
 use sqlite::{Alter, Connection, Error, ErrorCode, Row};
 
-// A query over each table and each column of the first version, and of what later ones add.
-macro_rules! select_all {
+/// A query over each table and each column of the first version, and of what later ones add.
+macro_rules! select_first {
     ($($column:literal)*, $($table:literal)*) => {
         concat!(
             "SELECT meta.version, stamp.serial, stamp.account, stamp.day, stamp.gen, stamp.policy, stamp.algorithm, \
@@ -28,18 +28,28 @@ macro_rules! select_all {
     };
 }
 
-const FIRST_COLUMNS: &str = select_all!(,);
+/// The same of the second version.
+macro_rules! select_second {
+    ($($column:literal)*, $($table:literal)*) => {
+        select_first!(", group_reader.serial, group_reader.name" $($column)*, ", group_reader" $($table)*)
+    };
+}
 
-const SECOND_COLUMNS: &str = select_all!(
-    ", group_reader.serial, group_reader.name",
-    ", group_reader"
-);
+/// And of the third.
+macro_rules! select_third {
+    ($($column:literal)*, $($table:literal)*) => {
+        select_second!(
+            ", identity.n, identity.after_serial, identity.certificate, identity.chain" $($column)*,
+            ", identity" $($table)*
+        )
+    };
+}
 
-const ALL_COLUMNS: &str = select_all!(
-    ", group_reader.serial, group_reader.name"
-    ", identity.n, identity.after_serial, identity.certificate, identity.chain",
-    ", group_reader" ", identity"
-);
+const FIRST_COLUMNS: &str = select_first!(,);
+
+const SECOND_COLUMNS: &str = select_second!(,);
+
+const ALL_COLUMNS: &str = select_third!(,);
 
 const VERSION: &str = "SELECT version FROM meta";
 
