@@ -1,16 +1,14 @@
 -- What is proved of a desk's parts is said of the desk.
-use Rattle.std.proofs.Common.{◌≡◌, ◌∙◌, ℕ, [], Result, Ok, Err, refl, sym, ap, subst}
+use Rattle.std.proofs.Common.{◌≡◌, ◌∙◌, [], Result, Ok, Err, refl, sym, ap, subst}
 use Rattle.std.specs.Result.{IsErrAnd}
-use Rattle.book.specs.{declared.standing.Standing.Ghosts, History.History, Readers.Reader, Sound.IsSound}
+use Rattle.book.specs.{declared.standing.Standing.Ghosts, History.History, Sound.IsSound}
 use Rattle.desk.specs.Command.{InForce, Setting, Command, Succeed, Answer, Done, Refused, setting_after}
 use Rattle.desk.specs.auxiliary.Obstacles.{fault_with, hindered, outcome_with, told_with}
 use Rattle.desk.specs.declared.obstacle.Obstacle.{Obstacle}
-use Rattle.desk.specs.declared.rights.Change.TheVariants.{Give, Take}
 use Rattle.desk.specs.CallContract.{DeskValue, desk_of, SignerStep, no_signer, StepsBy, IsStepBy, IsStep, HasOpened}
-use Rattle.desk.specs.{Answers.answered, Asked.right_command, declared.fault.Fault.Fault, declared.rights.Change.Change}
+use Rattle.desk.specs.{Answers.answered, declared.fault.Fault.Fault}
 use Rattle.desk.specs.{Effects.Effect, Outcome.Outcome, Outcome.all_fine, Promises.KeepsPromises, MachineStep.HasEffect}
 use Rattle.desk.proofs.calls.Wrapped.{IsWrapped, wrapped, wrapped_is}
-use Rattle.policy.specs.Record.{AccountValue}
 
 -- what is promised of each command
 abbrev pub ArePromises : Type 0
@@ -28,11 +26,6 @@ promised g promises t s c o old new answer by = record {
 -- the setting stays under the command, whatever is answered
 abbrev pub StaysUnder : Command → Type 0
 StaysUnder c = (s : Setting) (a : Answer) → setting_after s c a ≡ s
-
-pub right_stays : (change : Change) (account : AccountValue) (number : ℕ) (reader : Reader)
-    → StaysUnder (right_command change account number reader)
-right_stays Give account number reader s a = refl
-right_stays Take account number reader s a = refl
 
 pub steps_opened : {B : Type 0} (g : Ghosts B) → ArePromises → (t : SignerStep) (seen now : DeskValue B)
     (one other : Command) (o : Outcome) (new : B) (said says : Answer) → StaysUnder other → seen ≡ now → one ≡ other

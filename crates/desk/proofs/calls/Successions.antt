@@ -1,5 +1,5 @@
 -- An identity is installed, unless it is the one that was installed last.
-use Rattle.std.proofs.Common.{◌≡◌, true, false, List, [], ◌∷◌, ◌++◌, length, map, reverse, Option, Some, None}
+use Rattle.std.proofs.Common.{◌≡◌, false, List, [], ◌∷◌, ◌++◌, length, map, reverse, Option, Some, None}
 use Rattle.std.proofs.Common.{Result, Ok, Err, refl, sym, ◌∙◌, ap, subst, inl, inr, arith}
 use Rattle.std.proofs.lemmas.List.{reverse-append, reverse-reverse, map-append}
 use Rattle.std.specs.{Prelude.option_map, Prelude.IfErr, Hash.DefaultHasher.wrapping_add}
@@ -58,28 +58,6 @@ last_installed b rows rest row all e =
     by_number b (before ++ (last ∷ []))
     (sym (ap (map identity_view) all ∙ map-append identity_view rest (row ∷ [])) ∙ e)
     ∙ ap newest_in (reverse-append before (last ∷ []))
-
--- it is in force already
-pub succeeded_already : {B : Type 0} (g : Ghosts B) (s : Setting) (next : InForce) (old new : B) → OnlyLooks g old new
-    → g.fault_count new ≡ g.fault_count old
-    → (g.honest new → (b : History) → Stands g b old
-    → true ≡ is_latest (installed_by next.identity) (latest_identity b))
-    → StepsBy g no_signer s (Succeed next) (all_fine (Ok [])) old new Done
-succeeded_already g s next old new looks same latest = record {
-  fits = (refl, (tt, tt));
-  counted = same;
-  signer = tt;
-  blames = tt;
-  opened = λ honest. tt;
-  steps = λ honest b st met. record {
-    effect = only Done;
-    has = ap (succeed_effect (all_fine (Ok [])) (installed_by next.identity)) (latest honest b st);
-    says = refl;
-    moves = refl;
-    stands = looks.stands b st;
-    left = λ left r. inl (refl, looks.leaves honest left r);
-  };
-}
 
 -- what the look-up found: another one is the latest, or none
 pub record FindsOther {B : Type 0} (g : Ghosts B) (i : InstalledValue) (old mid : B) : Type 0 where

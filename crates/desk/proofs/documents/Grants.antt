@@ -10,8 +10,7 @@ use Rattle.book.specs.{Sound.FitsRight, Entries.Appends, Stands.Stands, Stands.O
 use Rattle.book.specs.declared.fault.StoreFault.TheVariants as store
 use Rattle.desk.specs.Command.{Setting, Answer, Done, Refused}
 use Rattle.desk.specs.Effects.{Effect, only, unless, fault_of, objection, accepted, unless_against, right_effect}
-use Rattle.desk.specs.auxiliary.Obstacles.{fault_with, hindered, outcome_with, IsOfRight, IsOfSight, IsOpposed}
-use Rattle.desk.specs.auxiliary.Obstacles.{IsUnseen}
+use Rattle.desk.specs.auxiliary.Obstacles.{fault_with, hindered, outcome_with, IsOfRight, IsOpposed}
 use Rattle.desk.specs.auxiliary.Obstacles.{told_with, MayName, MayNot, Owns}
 use Rattle.desk.specs.Outcome.{Call, Fine, OutOfMemory, Failed, Outcome, Cause, OfMemory, OfStore, cause_of}
 use Rattle.desk.specs.CallContract.{no_signer, IsBlamed, IsOpened, StepsBy, committed}
@@ -24,15 +23,6 @@ use Rattle.desk.specs.declared.obstacle.Obstacle.TheVariants as obstacle
 use Rattle.desk.proofs.calls.Fits.{by_storage, none_failed}
 use Rattle.desk.proofs.{documents.Denied.denied, stamps.Beginnings.one_in_doubt, documents.Sighted.may_see}
 use Rattle.desk.proofs.{journeys.StepFacts.right_seen, calls.Wrapped.wrapped}
-
--- what stands in the way of seeing a deposit, stands in the way of its rights
-pub unseen_named : (file : PolicyValue) (account : List ℕ) (reader : Reader) (n : ℕ) (b : History) (x : Obstacle)
-    → IsOfSight x → IsUnseen (viewer_in file account) n b x → MayNot file account reader n b x
-unseen_named file account reader n b (obstacle.Denied f) of h = inl (of, h)
-unseen_named file account reader n b (obstacle.Searching f) of h = tt
-unseen_named file account reader n b (obstacle.Looking f) of h = h
-unseen_named file account reader n b obstacle.OutOfMemory of h = absurd of
-unseen_named file account reader n b (obstacle.Adding f) of h = absurd of
 
 -- what is seen is whose it is asked for
 pub owned : (viewer : Viewer) (account : List ℕ) (n : ℕ) (b : History) (d : DepositRow) (owns : Bool)
@@ -50,16 +40,6 @@ named_by file account reader n b d (Err (obstacle.Searching f)) own h = absurd h
 named_by file account reader n b d (Err (obstacle.Looking f)) own h = absurd h
 named_by file account reader n b d (Err obstacle.OutOfMemory) own h = absurd h
 named_by file account reader n b d (Err (obstacle.Adding f)) own h = absurd h
-
-pub uncounted_by : {A : Type 0} (file : PolicyValue) (account : List ℕ) (reader : Reader) (r : Result A Obstacle)
-    (count : ℕ) → MatchResult r (λ _. objection file account reader ≡ None) (IsOpposed file account reader)
-    → count ≡ faults_after (outcome_with r) count
-uncounted_by file account reader (Ok a) count h = refl
-uncounted_by file account reader (Err (obstacle.Denied f)) count h = refl
-uncounted_by file account reader (Err (obstacle.Searching f)) count h = absurd h
-uncounted_by file account reader (Err (obstacle.Looking f)) count h = absurd h
-uncounted_by file account reader (Err obstacle.OutOfMemory) count h = absurd h
-uncounted_by file account reader (Err (obstacle.Adding f)) count h = absurd h
 
 -- a right to the deposit with a number, which its owner gives a reader or takes
 module _ (s : Setting) (a : AccountValue) (n : ℕ) (reader : Reader) where

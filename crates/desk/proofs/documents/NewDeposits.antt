@@ -6,13 +6,13 @@ use Rattle.std.specs.Prelude.{IfSome}
 use Rattle.sha2.specs.Sha256.{sha256}
 use Rattle.policy.specs.Record.{AccountValue, PolicyValue}
 use Rattle.tsp.specs.Request.{RequestValue, Spells, sha256_request}
-use Rattle.desk.specs.Outcome.{Fine, Outcome, Refusal, ByRule, ByCause, cause_of}
-use Rattle.desk.specs.Effects.{for_deposit, deposit_found, refused_for, fault_by}
+use Rattle.desk.specs.Outcome.{Fine, Outcome, cause_of}
+use Rattle.desk.specs.Effects.{for_deposit, deposit_found}
 use Rattle.desk.specs.MachineStep.{HasEffect, KeepsWithinSize, KeepsOnceSearched, KeepsByReference}
-use Rattle.desk.specs.auxiliary.NewDeposit.{octets_of, question_of, IsUnused, FailsLate}
-use Rattle.desk.specs.{Findings.Finding, Findings.Finds, Command.Setting, Command.Deposit, Command.Refused}
-use Rattle.desk.specs.{Texts.gives_certificate, Texts.request_for, Texts.octets_for, Fault.IsOfDeposit}
-use Rattle.desk.proofs.{documents.Late.by_cause, stamps.Stamps.IsStamp, journeys.Views.fits_seal}
+use Rattle.desk.specs.auxiliary.NewDeposit.{octets_of, question_of, IsUnused}
+use Rattle.desk.specs.{Findings.Finding, Findings.Finds, Command.Setting, Command.Deposit}
+use Rattle.desk.specs.{Texts.gives_certificate, Texts.request_for, Texts.octets_for}
+use Rattle.desk.proofs.{stamps.Stamps.IsStamp, journeys.Views.fits_seal}
 
 -- the request as which a deposit is stamped
 pub request_is : (file : PolicyValue) (a : AccountValue) (bytes digest : List ℕ) (certificate : Bool)
@@ -28,16 +28,6 @@ pub lent_octets : {X : Type 0} (view : X → List ℕ) (query : Option X) (octet
 lent_octets view None octets r is spelled short = (tt, tt)
 lent_octets view (Some q) octets r is spelled short =
     (subst (λ xs. Spells xs r) (sym is) spelled, subst (λ xs. length xs ≤ 65536) (sym is) short)
-
--- a refusal of a deposit's stamp
-pub late_refusal : (why : Refusal) → FailsLate why → IsOfDeposit (fault_by why)
-late_refusal (ByRule rule) late = late
-late_refusal (ByCause cause) late = by_cause cause
-
-pub refused_deposit : (owner reference bytes : List ℕ) (why : Refusal)
-    → Refused (fault_by why) ≡ refused_for (for_deposit owner reference bytes) why
-refused_deposit owner reference bytes (ByRule rule) = refl
-refused_deposit owner reference bytes (ByCause cause) = refl
 
 -- a plan is found as for a stamp
 under_octets : (s : Setting) (a : AccountValue) (reading : ℤ) (reference bytes : List ℕ) (o : Outcome) (b : History)

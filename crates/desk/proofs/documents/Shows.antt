@@ -3,7 +3,7 @@ use Rattle.std.proofs.Common.{◌≡◌, ℕ, ◌==◌, ◌||◌, cond, Bool, tr
 use Rattle.std.proofs.{Common.None, Common.refl, Common.ap, Common.◌∙◌, Common.subst, lemmas.Bool.eqb-true}
 use Rattle.std.specs.{List.find, Option.option_and_then, Option.option_map, Str.bytes_eq}
 use Rattle.policy.specs.{Record.AccountValue, Record.PolicyValue, Kinds.is_among, LookUp.account_named}
-use Rattle.book.specs.History.{Entry, Reserved, Sealed, Deposited, Calibrated, Held, Granted, Revoked, History}
+use Rattle.book.specs.History.{Reserved, Sealed, Deposited, Calibrated, Held, Granted, Revoked, History}
 use Rattle.book.specs.History.{Installed, ReservationValue, stamp_of, token_of, reservation_at, deposit_at}
 use Rattle.book.specs.Rights.{may_read, shown_to, seen_by, is_visible, deposit_with_stamp}
 use Rattle.book.specs.Sound.{Along, Fits, FitsSealed, IsSound}
@@ -65,11 +65,6 @@ seen_where viewer n b e = some_where (seen_by viewer n b) e
 none_where : {A : Type 0} (o : Option A) → false ≡ is_some o → o ≡ None
 none_where None e = refl
 none_where (Some x) e = cc
-
--- what isn't visible isn't seen
-pub unseen_where : (viewer : Viewer) (n : ℕ) (b : History) → false ≡ is_visible viewer n b
-    → seen_by viewer n b ≡ None
-unseen_where viewer n b e = none_where (seen_by viewer n b) e
 
 -- an account of the file has the name
 known_at : (name : List ℕ) (a : AccountValue) (accounts : List AccountValue) (here : Bool)

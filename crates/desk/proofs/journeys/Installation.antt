@@ -1,7 +1,6 @@
 -- What is in force stays the identity that was installed last, and an opening brings it so.
-use Rattle.std.proofs.Common.{◌≡◌, ℕ, ◌+◌, ◌&&◌, nat_le, Bool, true, false, List, [], ◌∷◌, ◌++◌, length}
+use Rattle.std.proofs.Common.{◌≡◌, ℕ, ◌+◌, nat_le, Bool, true, false, List, [], ◌∷◌, ◌++◌, length}
 use Rattle.std.proofs.Common.{Option, Some, None, refl, sym, ◌∙◌, ap, subst}
-use Rattle.std.proofs.lemmas.Slice.Eq.{bytes_eq-Decides}
 use Rattle.std.specs.Str.{bytes_eq}
 use Rattle.book.specs.History.{Reserved, Calibrated, Held, Granted, Revoked, Installed, InstalledValue, History}
 use Rattle.book.specs.History.{calibrations, holds, latest_calibration, token_of}
@@ -10,7 +9,7 @@ use Rattle.book.specs.{History.ReservationValue, Rights.seen_by, Sound.is_backwa
 use Rattle.desk.specs.Findings.{StampPlan, Finding, Fails, Unanswered, Allowed}
 use Rattle.desk.specs.Command.{InForce, Setting, Command, Stamp, Begin, Finish, Abandon, Deposit, Show, Token, ListAll}
 use Rattle.desk.specs.Command.{Grant, Revoke, Calibrate, Hold, Succeed, Done, Refused, brought, in_force_after}
-use Rattle.desk.specs.Effects.{Effect, only, unless, no_number, no_seal}
+use Rattle.desk.specs.Effects.{Effect, only, no_number, no_seal}
 use Rattle.desk.specs.Effects.{begin_effect, begin_found, finish_effect}
 use Rattle.desk.specs.Effects.{right_effect, accepted, numbered, succeed_effect}
 use Rattle.desk.specs.Succession.{installed_by, is_latest, IsInForce}
@@ -192,17 +191,3 @@ brought_in_force s next o b e h =
     (unless_has (BringsDone next b) (λ f. not_done f (IsInForce next b)) (cause_of o.looking)
     (succeed_effect o i (is_latest i (latest_identity b)))
     (opened_brings next o b (is_latest i (latest_identity b)) refl))
-
--- an identity that was installed last isn't installed again
-same_is_latest : (i : InstalledValue) → is_latest i (Some i) ≡ true
-same_is_latest i =
-    ap (λ t. t && bytes_eq i.chain i.chain) ((bytes_eq-Decides i.certificate i.certificate).1 refl)
-    ∙ (bytes_eq-Decides i.chain i.chain).1 refl
-
-pub same_adds_none : (s : Setting) (next : InForce) (o : Outcome) (b : History) (e : Effect) → IsInForce next b
-    → HasEffect s (Succeed next) o b e → e.adds ≡ []
-same_adds_none s next o b e k h =
-    let i = installed_by next.identity in
-    ap (λ x. x.adds) h
-    ∙ (ap (λ t. (unless (cause_of o.looking) (succeed_effect o i t)).adds) (ap (is_latest i) k ∙ same_is_latest i)
-    ∙ answers_none (cause_of o.looking) Done)

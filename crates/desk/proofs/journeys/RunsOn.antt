@@ -7,7 +7,7 @@ use Rattle.book.specs.{declared.standing.Standing.Ghosts, History.History, Reade
 use Rattle.cms.specs.{Signer.count_after, declared.signer.SignerFault.SignerFault}
 use Rattle.desk.specs.Command.{InForce, Setting, Command, Succeed, Answer, setting_after}
 use Rattle.desk.specs.auxiliary.Obstacles.{hindered, outcome_with, told_with}
-use Rattle.desk.specs.CallContract.{StepsBy, IsBareStep, MayBeLeft, IsBlamed, IsOpened, no_signer, with_signer}
+use Rattle.desk.specs.CallContract.{StepsBy, MayBeLeft, IsBlamed, IsOpened, no_signer, with_signer}
 use Rattle.desk.specs.RunContract.{Obeys, WasOpen, AreSteps, ArePromised, MayBeLeftBy, AreCommandsOfOthers, OneConcerns}
 use Rattle.desk.specs.{Outcome.Outcome, Calls.settings_view, Calls.or_before, Calls.succeeded_as, Effects.Effect}
 use Rattle.desk.specs.{MachineStep.HasEffect, MachineStep.Moves, Promises.KeepsPromises, RunContract.RunsBy}
@@ -90,18 +90,6 @@ obeyed_by g signs count x s c d as_answer r old new says stays plain same is ste
     subst (λ k. StepsBy g (with_signer signs count x x) s k (outcome_with r) old new says) (sym same)
         (with_resting g signs count x s c (outcome_with r) old new (told_with as_answer r) says (unsigned r) is step),
   ),
-  sym (ap (λ k. setting_after s k says) same ∙ stays s says),
-  λ honest. subst (λ k. WasOpen g k says old) (sym same) (plain says),
-)
-
--- a part that has its own outcome
-pub obeyed_as : {B X : Type 0} (g : Ghosts B) (signs : X → List ℕ → Result (List ℕ) SignerFault → X → Type 0)
-    (count : X → ℕ) (x y : X) (s : Setting) (c d : Command) (old new : B) (said says : Answer) → StaysUnder c
-    → ((a : Answer) → WasOpen g c a old) → d ≡ c → says ≡ said → IsBareStep g (with_signer signs count x y) s c old new said
-    → Obeys g signs count s d old x s new y says
-obeyed_as g signs count x y s c d old new said says stays plain same is step = (
-  subst (λ k. IsBareStep g (with_signer signs count x y) s k old new says) (sym same)
-      (subst (IsBareStep g (with_signer signs count x y) s c old new) (sym is) step),
   sym (ap (λ k. setting_after s k says) same ∙ stays s says),
   λ honest. subst (λ k. WasOpen g k says old) (sym same) (plain says),
 )

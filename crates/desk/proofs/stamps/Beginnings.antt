@@ -1,9 +1,7 @@
 -- A stamp up to its reservation: what decides it, and the step that a beginning is.
-use Rattle.std.proofs.Common.{◌≡◌, ◌⊎◌, ℕ, ◌≤◌, nat_le, cond, Bool, true, false, List, [], ◌++◌, ◌∷◌, Option, Some}
-use Rattle.std.proofs.Common.{ℤ, None, Result, Ok, Err, refl, sym, ap, ◌∙◌, subst, inl, inr, arith}
+use Rattle.std.proofs.Common.{◌≡◌, ℕ, ◌≤◌, nat_le, cond, Bool, true, false, List, [], ◌++◌, ◌∷◌, Some}
+use Rattle.std.proofs.Common.{None, Result, Ok, Err, refl, sym, ap, ◌∙◌, subst, inl, inr, arith}
 use Rattle.std.proofs.lemmas.Bool.Decides.{nat_tests}
-use Rattle.std.specs.Prelude.{IfErr}
-use Rattle.policy.specs.Record.{AccountValue}
 use Rattle.tsp.specs.{Rules.IsFirstFailing, declared.rule.Rule.Rule}
 use Rattle.cms.specs.declared.signer.SignerFault.{SignerFault}
 use Rattle.book.specs.History.{Entry, Reserved, History, ReservationValue, greatest_serial}
@@ -14,7 +12,7 @@ use Rattle.desk.specs.auxiliary.Beginnings.{Reserves}
 use Rattle.desk.specs.CallContract.{SignerStep, no_signer, IsBlamedFor, IsBlamed, IsExcused, IsSpentIn, IsOpened}
 use Rattle.desk.specs.CallContract.{StepsBy, StepsWhere, IsDoubted, in_doubt}
 use Rattle.desk.specs.Calls.{call_of, store_cause, why_of, refused, outcome_of, IsOfLooks}
-use Rattle.desk.specs.Command.{Setting, PendingValue, Command, Begin, Begun, Rejected, Refused}
+use Rattle.desk.specs.Command.{Setting, PendingValue, Command, Begin, Begun, Refused}
 use Rattle.desk.specs.Effects.{Effect, Purpose, refused_for, for_parts, only, fault_of, no_number, begin_effect}
 use Rattle.desk.specs.Effects.{purpose_effect, purpose_found, stamping_of, name_of}
 use Rattle.desk.specs.Findings.{Finding, HoldsUnasked, Fails, Unanswered, Allowed, Finds}
@@ -312,11 +310,6 @@ begins g s a (Err r) result old mid new h is =
     subst (λ x. Begins g s a x old new) (sym is.0)
     (subst (λ v. Begins g s a (Err r) old v) (sym is.1)
     (inl h.refusals, settles g s a (why_of r) (refused r) old mid h.judges h.counted))
-
-pub begins_refused : {B : Type 0} (g : Ghosts B) (s : Setting) (a : Question)
-    (result : Result PendingValue StampRefusal) (old new : B) → Begins g s a result old new → IfErr result IsOfBeginning
-begins_refused g s a (Ok p) old new h = tt
-begins_refused g s a (Err r) old new h = h.0
 
 -- one that fails one of the rules 1 to 9 is refused by it, and nothing is done
 pub begins_unasked : {B : Type 0} (g : Ghosts B) (s : Setting) (a : Question) (ws : List WaitingStamp)

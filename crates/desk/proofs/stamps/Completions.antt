@@ -1,7 +1,7 @@
 -- Stamps of a batch from their reservations on: what is written of each, and what the commit of all tokens does.
 use Rattle.std.proofs.Common.{◌≡◌, ℕ, ◌<◌, ◌+◌, ◌==◌, List, [], ◌∷◌, ◌++◌, map, length, Some, None, Result, Ok}
 use Rattle.std.proofs.Common.{Err, refl, sym, ◌∙◌, ap, arith, append_assoc, append-nil, false, if◌then◌else◌, take}
-use Rattle.std.proofs.Common.{slice_index_or, Vec, inl, inr, subst}
+use Rattle.std.proofs.Common.{slice_index_or, Vec, inl, inr}
 use Rattle.std.proofs.lemmas.List.{map-append, take_more}
 use Rattle.std.specs.{Hash.DefaultHasher.wrapping_add, List.AllByRecursion}
 use Rattle.book.specs.History.{Entry, Sealed, History, ReservationValue, token_of}
@@ -11,19 +11,17 @@ use Rattle.cms.specs.Signer.{signed_by, count_after_each}
 use Rattle.cms.specs.{SignedData.attribute_text, declared.signer.SignerFault.SignerFault}
 use Rattle.cms.specs.declared.signer.SignerFault.TheVariants as signer
 use Rattle.desk.specs.Batches.{SealValue, seal_entry, with_sealed, seals}
-use Rattle.desk.specs.Command.{Setting, PendingValue, Answer, Stamped, Rejected}
-use Rattle.desk.specs.auxiliary.Completions.{texts_of, Completion, finished, completed, seals_of, AreWaiting, IsWritten}
-use Rattle.desk.specs.auxiliary.Completions.{seal_view}
+use Rattle.desk.specs.Command.{Setting, PendingValue, Answer, Rejected}
+use Rattle.desk.specs.auxiliary.Completions.{texts_of, Completion, finished, completed, seals_of, AreWaiting}
 use Rattle.desk.specs.auxiliary.Completions.{AreWritten, IsWrittenMore}
 use Rattle.desk.specs.Outcome.{Call, Fine, OutOfMemory, Failed, Outcome, Cause, OfMemory, OfStore, cause_of}
 use Rattle.desk.specs.Outcome.{first_cause}
 use Rattle.desk.specs.auxiliary.Verdicts.{Verdict, Settled, Waits, JudgedStamp, waiting_before, waits_of, HasItsText}
 use Rattle.desk.specs.WaitingStamps.{waiting_view, pending_in, pendings_in, HasText}
 use Rattle.desk.specs.auxiliary.Wholes.{token_or, ending, added, ended, answer_by, stamped}
-use Rattle.desk.specs.{Answers.reply_as, Effects.in_seal, Effects.for_reply, Effects.no_seal, Fit.IsUncounted}
+use Rattle.desk.specs.{Effects.in_seal, Effects.for_reply, Effects.no_seal, Fit.IsUncounted}
 use Rattle.desk.specs.{Sent.texts_for, Texts.token_with, Together.AreOfSome, auxiliary.Verdicts.IsJudgedRightly}
-use Rattle.desk.specs.{declared.completion.Seal.Seal, declared.unsigned_token.Written.Written}
-use Rattle.desk.specs.{declared.reply.Reply.Reply, declared.waiting_stamp.WaitingStamp.WaitingStamp}
+use Rattle.desk.specs.declared.waiting_stamp.WaitingStamp.{WaitingStamp}
 use Rattle.desk.proofs.{stamps.BatchJudgement.all_next, stamps.Endings.waiting_fits}
 
 pub with_both : (vs us : List SealValue) (b : History) → with_sealed (vs ++ us) b ≡ with_sealed us (with_sealed vs b)
@@ -174,46 +172,6 @@ counts_each [] count = refl
 counts_each (Ok signature ∷ answers) count = counts_each answers count
 counts_each (Err signer.Failed ∷ answers) count = counts_each answers (wrapping_add count 1)
 counts_each (Err signer.Memory ∷ answers) count = counts_each answers count
-
--- what is written of one more
-pub written_sealed : (p : PendingValue) (signing : Result (List ℕ) SignerFault) (w : Written)
-    (seals_before seals_now : List Seal) (before now : List Reply) (seal : Seal) (reply : Reply)
-    → IsWritten p signing (Some w) → seals_now ≡ seals_before ++ (seal ∷ []) → now ≡ before ++ (reply ∷ [])
-    → seal_view seal ≡ record { serial = w.serial; token = w.token.items }
-    → reply_as reply ≡ Stamped w.serial w.bytes.items
-    → IsWrittenMore p signing (map seal_view seals_before) (map reply_as before) (map seal_view seals_now)
-    (map reply_as now)
-written_sealed p (Ok signature) w seals_before seals_now before now seal reply is seals_are are seal_is reply_is = record {
-  wrapping = Fine;
-  grows = tt;
-  seals_are = ap (map seal_view) seals_are ∙ (map-append seal_view seals_before (seal ∷ [])
-      ∙ ap (λ (v : SealValue). map seal_view seals_before ++ (v ∷ []))
-      (seal_is ∙ (ap (λ (n : ℕ). record { serial = n; token = w.token.items }) is.0
-      ∙ ap (λ (token : List ℕ). record { serial = p.serial; token = token }) is.1)));
-  says = ap (map reply_as) are ∙ (map-append reply_as before (reply ∷ [])
-      ∙ ap (λ (a : Answer). map reply_as before ++ (a ∷ []))
-      (reply_is ∙ (ap (λ (n : ℕ). Stamped n w.bytes.items) is.0
-      ∙ ap (λ (bytes : List ℕ). Stamped p.serial bytes) is.2)));
-}
-written_sealed p (Err fault) w seals_before seals_now before now seal reply is seals_are are seal_is reply_is = absurd is
-
-pub written_void : (p : PendingValue) (signing : Result (List ℕ) SignerFault) (vs : List SealValue)
-    (before now : List Reply) (reply : Reply) → now ≡ before ++ (reply ∷ []) → reply_as reply ≡ Rejected System
-    → IsWrittenMore p signing vs (map reply_as before) vs (map reply_as now)
-written_void p (Ok signature) vs before now reply are reply_is = record {
-  wrapping = OutOfMemory;
-  grows = tt;
-  seals_are = sym (append-nil vs);
-  says = ap (map reply_as) are ∙ (map-append reply_as before (reply ∷ [])
-      ∙ ap (λ (a : Answer). map reply_as before ++ (a ∷ [])) reply_is);
-}
-written_void p (Err fault) vs before now reply are reply_is = record {
-  wrapping = Fine;
-  grows = tt;
-  seals_are = sym (append-nil vs);
-  says = ap (map reply_as) are ∙ (map-append reply_as before (reply ∷ [])
-      ∙ ap (λ (a : Answer). map reply_as before ++ (a ∷ [])) reply_is);
-}
 
 sealed_more : (zs : List Completion) (z : Completion)
     → seals_of Fine (zs ++ (z ∷ [])) ≡ seals_of Fine zs ++ seals (completed Fine z).adds

@@ -1,26 +1,24 @@
 -- How a stamp ends: its token is kept, or it stays void. A finish is such an end.
 use Rattle.std.proofs.Common.{◌≡◌, ℕ, List, [], ◌∷◌, ◌++◌, Option, Some, None, Result, Ok, Err, refl, sym, ◌∙◌}
 use Rattle.std.proofs.Common.{ap, subst, inl, inr}
-use Rattle.std.specs.Prelude.{OnOk, IfErr}
-use Rattle.book.specs.{declared.standing.Standing.Ghosts, Entries.Appends, Fault.IsOfStorage, History.History}
-use Rattle.book.specs.{Sound.FitsSealed, Stands.Stands, declared.fault.StoreFault.StoreFault}
+use Rattle.std.specs.Prelude.{IfErr}
+use Rattle.book.specs.{declared.standing.Standing.Ghosts, Entries.Appends, History.History}
+use Rattle.book.specs.{Sound.FitsSealed, Stands.Stands}
 use Rattle.cms.specs.{Signer.count_after, declared.signer.SignerFault.SignerFault}
 use Rattle.cms.specs.declared.signer.SignerFault.TheVariants as signer
-use Rattle.book.specs.declared.fault.StoreFault.TheVariants as store
 use Rattle.desk.specs.Outcome.{Fine, OutOfMemory, Failed, Outcome, Cause, OfMemory, OfStore, OfSigner}
-use Rattle.desk.specs.Outcome.{Refusal, ByCause, faults_after, first_cause, all_fine}
+use Rattle.desk.specs.Outcome.{Refusal, ByCause, faults_after, all_fine}
 use Rattle.desk.specs.Command.{Setting, PendingValue, Finish, Answer, Refused}
 use Rattle.desk.specs.Effects.{Keeping, in_seal, for_parts, refused_for, fault_by, unless, no_seal, finish_effect}
 use Rattle.desk.specs.CallContract.{StepsBy, IsBlamed, MayBeLeft, no_signer, committed, in_doubt}
-use Rattle.desk.specs.Calls.{refused, why_of, store_cause, signer_cause}
+use Rattle.desk.specs.Calls.{refused, why_of, signer_cause}
 use Rattle.desk.specs.auxiliary.Wholes.{joined, token_or, ending, added, ended, answer_by, MayStay, WasMet, Ends}
 use Rattle.desk.specs.auxiliary.Wholes.{IsOfFinish}
 use Rattle.desk.specs.declared.refusal.StampRefusal.{StampRefusal}
 use Rattle.desk.specs.{Fit.IsFit, Texts.token_with, MachineStep.IsWaiting, Answers.reply_as, declared.reply.Reply.Reply}
 use Rattle.desk.specs.declared.refusal.StampRefusal.TheVariants as refusal
-use Rattle.desk.proofs.calls.Fits.{by_storage, is_refused}
 use Rattle.desk.proofs.stamps.Stamps.{tells_opened, tells_blamed, met_all}
-use Rattle.desk.proofs.{stamps.Committed.counted_as, stamps.Judgement.same_cause, stamps.Beginnings.tells_parts}
+use Rattle.desk.proofs.stamps.Beginnings.{tells_parts}
 
 -- what waits may be sealed
 pub waiting_fits : (p : PendingValue) (b : History) → IsWaiting p b → FitsSealed p.serial b
@@ -72,45 +70,6 @@ stored g k p signature serial token old new number is a =
     (stored_as g k p signature old new
     (subst (λ x. Appends {A = Unit {0}} g (k.adds p.serial x ∷ []) old new (Ok tt)) is
     (subst (λ n. Appends {A = Unit {0}} g (k.adds n token ∷ []) old new (Ok tt)) number a))))
-
--- the commit is refused by this fault
-unstored_met : (signature : List ℕ) (f : StoreFault) → IsOfStorage f
-    → WasMet (Ok signature) (refused (refusal.Sealing f)) (store_cause f)
-unstored_met signature =
-    by_storage (λ f. WasMet (Ok signature) (refused (refusal.Sealing f)) (store_cause f)) (tt, tt) refl
-
-unstored_as : {B : Type 0} (g : Ghosts B) (k : Keeping) (p : PendingValue) (signature : List ℕ) (old new : B)
-    (f : StoreFault) → IsOfStorage f
-    → Appends {A = Unit {0}} g (k.adds p.serial (token_with p signature) ∷ []) old new (Err f)
-    → Ends g k p (Ok signature) (refused (refusal.Sealing f)) old new (Err (ByCause (store_cause f)))
-unstored_as g k p signature old new f storage a =
-    let o = refused (refusal.Sealing f) in
-    let end : ending p (Ok signature) o ≡ Err (store_cause f) =
-    ap (λ x. token_or (token_with p signature) (first_cause (x ∷ []))) (same_cause f storage) in
-    let none : added k p.serial (ending p (Ok signature) o) ≡ [] = ap (added k p.serial) end in
-    record {
-      says = sym (ap (ended k p.serial) end);
-      grows = tt;
-      counted = a.faults ∙ counted_as f storage (g.fault_count old);
-      opened = λ honest. subst (λ x. OnOk x (g.is_open new)) (sym end) tt;
-      met = subst (λ x. IfErr x (WasMet (Ok signature) o)) (sym end) (unstored_met signature f storage);
-      steps = λ honest b stands fits. record {
-        stands = subst (λ es. Stands g (es ++ b) new) (sym none) (a.err b stands);
-        left = λ left r. elim (a.crash honest left r) [
-          | inl before ↦ inl (none, before)
-          | inr adds ↦ inr (inr (is_refused f storage, adds b stands (fits (token_with p signature), tt)))
-        ];
-      };
-    }
-
-pub unstored : {B : Type 0} (g : Ghosts B) (k : Keeping) (p : PendingValue) (signature : List ℕ) (serial : ℕ)
-    (token : List ℕ) (old new : B) (f : StoreFault) → serial ≡ p.serial → token ≡ token_with p signature
-    → IsOfStorage f → Appends {A = Unit {0}} g (k.adds serial token ∷ []) old new (Err f)
-    → Ends g k p (Ok signature) (refused (refusal.Sealing f)) old new (Err (ByCause (store_cause f)))
-unstored g k p signature serial token old new f number is storage a =
-    unstored_as g k p signature old new f storage
-    (subst (λ x. Appends {A = Unit {0}} g (k.adds p.serial x ∷ []) old new (Err f)) is
-    (subst (λ n. Appends {A = Unit {0}} g (k.adds n token ∷ []) old new (Err f)) number a))
 
 -- a finish is the end of a stamp whose signature is handed in: what it adds and says
 finish_is : (p : PendingValue) (signature : List ℕ) (why : Option Cause)

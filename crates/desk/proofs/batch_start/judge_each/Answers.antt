@@ -1,5 +1,4 @@
 use Rattle.std.proofs.Common.{◌+◌, ◌≤◌, ◌∙◌, [], length, take, sym, ap, subst, arith, rules}
-use Rattle.std.proofs.lemmas.List.{take_all}
 use Rattle.desk.specs.auxiliary.Verdicts.{verdict_of, JudgesEach, JudgesOne}
 use Rattle.desk.specs.{Calls.settings_view, Together.question_view, Together.questions_view}
 use Rattle.desk.proofs.stamps.BatchJudgement.{asked_more, judges_none, judges_next}
@@ -41,16 +40,4 @@ loop-question-preserved g c =
           c.judge_one-judged.new.store l.invariant.judges
           (subst (λ ws. JudgesOne g.B.Standing s (question_view q) ws (verdict_of c.judge_one-judged.result) l.store
           c.judge_one-judged.new.store) c.deref.ensures.value c.judge_one-judged.ensures.judges) keep.ensures.kept);
-    }
-
-pub returns : goal.returns
-returns g c =
-    let s = settings_view c.args.settings in
-    let l = c.loop-question in
-    let asked = c.args.asked.now in
-    record {
-      judges = subst (λ qs. JudgesEach g.B.Standing s (questions_view qs) l.verdicts.items l.waits.items
-          c.args.store.now l.store) (take_all l.question-index asked c.loop-question-test.false) l.invariant.judges;
-      many = search rules;
-      few = search rules;
     }

@@ -1,5 +1,5 @@
 use Rattle.std.proofs.Common.{[], Ok, refl}
-use Rattle.desk.specs.Calls.{settings_view, refused, why_of}
+use Rattle.desk.specs.Calls.{settings_view}
 use Rattle.desk.specs.{Outcome.ByCause, Outcome.all_fine, Together.question_view}
 use Rattle.desk.proofs.stamps.BatchJudgement.{judged_refused, refused_why}
 use Rattle.desk.proofs.batch_start.settle_one.Goals as goal
@@ -13,7 +13,3 @@ returns-in-Ok g c reserving refusal =
       judged_refused g.B.Standing (settings_view c.args.settings) (question_view c.args.asked) c.in-Ok._waiting
           reserving why.0 c.args.store.now c.judge_one.new.store why.1 c.in-Ok.ensures.judges,
     )
-
-pub returns-in-Err : goal.returns-in-Err
-returns-in-Err g c reserving refusal =
-    let r = c.in-Err.refusal in (why_of r, refused r, c.rule_by.ensures, c.in-Err.ensures.judges)

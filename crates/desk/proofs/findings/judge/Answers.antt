@@ -5,7 +5,7 @@ use Rattle.decide.specs.View.{account_asked}
 use Rattle.desk.specs.{Facts.facts_of, Findings.HoldsUnasked, WaitingStamps.with_waiting}
 use Rattle.desk.specs.declared.refusal.StampRefusal.TheVariants as refusal
 use Rattle.desk.proofs.stamps.Judgement.{unasked_first, unasked_lifted, first_lifted, answered_for}
-use Rattle.desk.proofs.{journeys.Headline.one_first, documents.Late.late_of}
+use Rattle.desk.proofs.journeys.Headline.{one_first}
 use Rattle.desk.proofs.findings.judge.Goals as goal
 
 pub returns-in-Some-clause-finds : goal.returns-in-Some-clause-finds
@@ -33,10 +33,6 @@ returns-in-Some-clause-unasked g c octets spelled short rule first =
       refl,
     )
 
-pub returns-in-None-clause-finds : goal.returns-in-None-clause-finds
-returns-in-None-clause-finds g c honest d st sound octets spelled short =
-    c.ask.ensures.finds honest d st sound octets spelled short c.in-None.ensures.first
-
 pub returns-in-None-clause-unasked : goal.returns-in-None-clause-unasked
 returns-in-None-clause-unasked g c octets spelled short rule first =
     let file = policy_view c.args.policy.now in
@@ -44,8 +40,3 @@ returns-in-None-clause-unasked g c octets spelled short rule first =
     let r = request_view c.args.requested.request in
     absurd (first.fails (unasked_lifted file account octets r spelled
     (λ s h. c.requests_have_one_reading.ensures.one octets r s spelled h) short c.in-None.ensures.first rule))
-
-pub returns-in-Some-clause-late : goal.returns-in-Some-clause-late
-returns-in-Some-clause-late g c one =
-    late_of (policy_view c.args.policy.now) (account_asked c.args.requested.account)
-    (request_view c.args.requested.request) c.in-Some.rule one c.in-Some.ensures.first

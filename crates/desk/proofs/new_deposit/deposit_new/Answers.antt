@@ -8,12 +8,6 @@ use Rattle.desk.proofs.documents.NewDeposits.{request_is, new_deposit, lent_octe
 use Rattle.desk.proofs.{stamps.Beginnings.begins, stamps.Stamps.is_whole}
 use Rattle.desk.proofs.new_deposit.deposit_new.Goals as goal
 
-pub write_request-written-requires : goal.write_request-written-requires
-write_request-written-requires g c =
-    let made = c.of_sha256-request in
-    let r = request_view made.result in
-    c.requests_have_one_reading.ensures.unstated (octets_of r) r made.ensures.spelled made.ensures.short
-
 pub judge_read-judged-requires : goal.judge_read-judged-requires
 judge_read-judged-requires g c =
     let made = c.of_sha256-request in

@@ -1,14 +1,14 @@
 use Rattle.std.proofs.Common.{[], Ok, length, sym, subst, arith}
 use Rattle.std.proofs.lemmas.Result.{err_from_is_err_and}
 use Rattle.policy.specs.View.{account_view}
-use Rattle.desk.specs.{Answers.answered, Calls.settings_view, Command.Deposit, Command.Refused, Calls.store_cause}
+use Rattle.desk.specs.{Answers.answered, Calls.settings_view, Command.Deposit, Command.Refused}
 use Rattle.desk.specs.{auxiliary.NewDeposit.IsUnused, Outcome.all_fine, Shown.deposited_as, CallContract.StepsBy}
 use Rattle.desk.specs.{CallContract.with_signer, auxiliary.Obstacles.fault_with}
 use Rattle.desk.specs.declared.obstacle.Obstacle.TheVariants as obstacle
 use Rattle.desk.proofs.documents.KnownDeposits.{is_too_large, is_unsearched, unsearched, is_same, is_other, is_unused}
 use Rattle.desk.proofs.documents.KnownDeposits.{is_after}
 use Rattle.desk.proofs.calls.Wrapped.{call_ok, call_err}
-use Rattle.desk.proofs.{documents.Late.by_cause, documents.NewDeposits.is_few}
+use Rattle.desk.proofs.documents.NewDeposits.{is_few}
 use Rattle.desk.proofs.new_deposit.deposit_with.Goals as goal
 
 pub returns-then-bytes-gt-MOST-clause-step : goal.returns-then-bytes-gt-MOST-clause-step
@@ -94,10 +94,3 @@ returns-in-Nothing-clause-step g c =
           c.as_str.ensures.value c.in-Nothing.is (rw found at (c.find_known-known.ensures.value honest b st)))
           c.deposit_new.ensures.honest done.1,
     )
-
-pub returns-in_err-number-clause-refusals : goal.returns-in_err-number-clause-refusals
-returns-in_err-number-clause-refusals g c =
-    let refused = call_err obstacle.Searching c.find_known-known.result c.in_err-number.field-0.0
-    c.in_err-number.ensures.cases in
-    let told = err_from_is_err_and c.from_residual.result c.from_residual.ensures.1 in
-    rw (told.1, told.2, refused.2) (by_cause (store_cause refused.0))

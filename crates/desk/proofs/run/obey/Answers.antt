@@ -1,66 +1,12 @@
-use Rattle.std.proofs.Common.{refl, ◌∙◌, sym, ap, SFits, w64, to_z, of_z, to_z-of_z, rules}
+use Rattle.std.proofs.Common.{refl, ◌∙◌, ap}
 use Rattle.policy.specs.View.{account_view}
 use Rattle.book.specs.{Entries.reader_view, Values.calibration_view, Values.hold_view}
-use Rattle.decide.specs.View.{account_asked}
 use Rattle.desk.specs.Calls.{settings_view, in_force_of}
-use Rattle.desk.specs.Command.{Stamp, Deposit, Show, Token, ListAll, Grant, Revoke, Calibrate, Hold}
-use Rattle.desk.specs.Shown.{deposited_as, shown_as, listed_as, done_as, numbered_as}
-use Rattle.desk.specs.{Answers.reply_as, Answers.answered, Asked.command_view, Asked.answer_view}
-use Rattle.desk.proofs.journeys.RunsOn.{obeyed_as, obeyed_by, obeyed_succession, succeeded_after}
+use Rattle.desk.specs.Command.{Grant, Revoke, Calibrate, Hold}
+use Rattle.desk.specs.Shown.{done_as, numbered_as}
+use Rattle.desk.specs.{Asked.command_view, Asked.answer_view}
+use Rattle.desk.proofs.journeys.RunsOn.{obeyed_by, obeyed_succession, succeeded_after}
 use Rattle.desk.proofs.run.obey.Goals as goal
-
-pub returns-in-Stamp-clause-step : goal.returns-in-Stamp-clause-step
-returns-in-Stamp-clause-step g c =
-    let s = settings_view c.args.settings in
-    let a = account_asked c.in-Stamp.account in
-    let r = c.in-Stamp.reading in
-    let reading : SFits w64 r = search rules in
-    obeyed_as g.B.Standing g.G.Signer.signs g.G.Signer.fault_count c.args.signer.now c.answer_with.new.signer s
-    (Stamp a (to_z w64 (of_z w64 r)) c.in-Stamp.query.now) (command_view c.args.command.now) c.args.store.now
-    c.answer_with.new.store (reply_as c.answer_with.result) (reply_as c.answer_with.result)
-    (λ s a. refl) (λ a. tt) (ap command_view c.in-Stamp.is ∙ ap (λ x. Stamp a x c.in-Stamp.query.now) (sym (to_z-of_z reading)))
-    refl c.answer_with.ensures.step
-
-pub returns-in-Deposit-clause-step : goal.returns-in-Deposit-clause-step
-returns-in-Deposit-clause-step g c =
-    let s = settings_view c.args.settings in
-    let a = account_view c.in-Deposit.account.now in
-    let r = c.in-Deposit.reading in
-    let reading : SFits w64 r = search rules in
-    obeyed_as g.B.Standing g.G.Signer.signs g.G.Signer.fault_count c.args.signer.now c.deposit_with.new.signer s
-    (Deposit a (to_z w64 (of_z w64 r)) c.in-Deposit.reference.now c.in-Deposit.bytes.now)
-    (command_view c.args.command.now) c.args.store.now c.deposit_with.new.store
-    (answered deposited_as c.deposit_with.result) (answer_view c.kept.result)
-    (λ s a. refl) (λ a. tt) (ap command_view c.in-Deposit.is
-    ∙ ap (λ x. Deposit a x c.in-Deposit.reference.now c.in-Deposit.bytes.now) (sym (to_z-of_z reading)))
-    c.kept.ensures c.deposit_with.ensures.step
-
-pub returns-in-Show-clause-step : goal.returns-in-Show-clause-step
-returns-in-Show-clause-step g c =
-    let s = settings_view c.args.settings in
-    obeyed_by g.B.Standing g.G.Signer.signs g.G.Signer.fault_count c.args.signer.now s
-    (Show (account_view c.in-Show.account.now) c.in-Show.number)
-    (command_view c.args.command.now) shown_as c.show_to.result c.args.store.now c.show_to.new.store
-    (answer_view c.shown.result)
-    (λ s a. refl) (λ a. tt) (ap command_view c.in-Show.is) c.shown.ensures c.show_to.ensures.step
-
-pub returns-in-Token-clause-step : goal.returns-in-Token-clause-step
-returns-in-Token-clause-step g c =
-    let s = settings_view c.args.settings in
-    obeyed_by g.B.Standing g.G.Signer.signs g.G.Signer.fault_count c.args.signer.now s
-    (Token (account_view c.in-Token.account.now) c.in-Token.number)
-    (command_view c.args.command.now) shown_as c.token_to.result c.args.store.now c.token_to.new.store
-    (answer_view c.shown-in-Token.result)
-    (λ s a. refl) (λ a. tt) (ap command_view c.in-Token.is) c.shown-in-Token.ensures c.token_to.ensures.step
-
-pub returns-in-List-clause-step : goal.returns-in-List-clause-step
-returns-in-List-clause-step g c =
-    let s = settings_view c.args.settings in
-    obeyed_by g.B.Standing g.G.Signer.signs g.G.Signer.fault_count c.args.signer.now s
-    (ListAll (account_view c.in-List.account.now))
-    (command_view c.args.command.now) listed_as c.list_to.result c.args.store.now c.list_to.new.store
-    (answer_view c.listed.result)
-    (λ s a. refl) (λ a. tt) (ap command_view c.in-List.is) c.listed.ensures c.list_to.ensures.step
 
 pub returns-in-Grant-clause-step : goal.returns-in-Grant-clause-step
 returns-in-Grant-clause-step g c =

@@ -1,21 +1,8 @@
-use Rattle.std.proofs.Common.{◌+◌, [], ◌∷◌, ◌++◌, ◌∙◌, refl, sym, ap, subst, arith}
-use Rattle.std.proofs.lemmas.List.{take_all}
-use Rattle.desk.specs.Asked.{command_view, answer_view, commands_view, answers_view}
-use Rattle.desk.specs.{Calls.settings_view, RunContract.AreSteps}
+use Rattle.std.proofs.Common.{◌+◌, [], ◌∷◌, ◌++◌, ◌∙◌, ap, arith}
+use Rattle.desk.specs.Asked.{command_view, answer_view}
+use Rattle.desk.specs.Calls.{settings_view}
 use Rattle.desk.proofs.journeys.RunsOn.{steps_more}
 use Rattle.desk.proofs.run.obey_each.Goals as goal
-
-pub loop-command-init : goal.loop-command-init
-loop-command-init g c = record {
-  counted = c.in-Ok.ensures.len;
-  room = c.in-Ok.ensures.capacity;
-  steps = (
-    [],
-    subst (λ told. AreSteps g.B.Standing g.G.Signer.signs g.G.Signer.fault_count (settings_view c.args.settings) [] []
-        (answers_view told) c.args.store.now c.args.signer.now (settings_view c.args.settings) c.args.store.now
-        c.args.signer.now) (sym c.in-Ok.ensures.items) (refl, refl, refl),
-  );
-}
 
 pub loop-command-preserved : goal.loop-command-preserved
 loop-command-preserved g c =
@@ -35,13 +22,3 @@ loop-command-preserved g c =
             step.0.1 step.1 step.2,
       );
     }
-
-pub returns-clause-steps : goal.returns-clause-steps
-returns-clause-steps g c =
-    let steps = c.loop-command.invariant.steps in (
-      steps.0,
-      subst (λ cs. AreSteps g.B.Standing g.G.Signer.signs g.G.Signer.fault_count (settings_view c.args.settings)
-          (commands_view cs) steps.0 (answers_view c.loop-command.answers.items) c.args.store.now c.args.signer.now
-          (settings_view c.loop-command.current) c.loop-command.store c.loop-command.signer)
-          (take_all c.loop-command.command-index c.args.commands.now c.loop-command-test.false) steps.1,
-    )

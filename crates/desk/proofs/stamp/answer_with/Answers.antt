@@ -1,4 +1,4 @@
-use Rattle.std.proofs.Common.{◌≡◌, ◌∙◌, [], Err, refl, ap, sym, subst}
+use Rattle.std.proofs.Common.{◌≡◌, ◌∙◌, [], Err, ap, sym, subst}
 use Rattle.std.specs.Prelude.{IfErr}
 use Rattle.desk.specs.CallContract.{StepsBy, with_signer}
 use Rattle.desk.specs.{Answers.ended_as, Batches.stamp_for, Calls.settings_view, Effects.for_reply, Effects.in_seal}
@@ -6,9 +6,6 @@ use Rattle.desk.specs.{auxiliary.Kept.kept_as, MachineStep.IsMet, Together.quest
 use Rattle.desk.proofs.stamps.Beginnings.{begins, begins_unasked}
 use Rattle.desk.proofs.stamps.Stamps.{is_stamp, is_whole}
 use Rattle.desk.proofs.stamp.answer_with.Goals as goal
-
-pub reserve-begun-requires : goal.reserve-begun-requires
-reserve-begun-requires g c = record { text = c.judge_one-judged.ensures.judges.rightly.text }
 
 pub returns : goal.returns
 returns g c =

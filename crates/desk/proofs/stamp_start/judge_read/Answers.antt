@@ -1,17 +1,9 @@
-use Rattle.std.proofs.{Common.sym, Common.subst, Common.inl, lemmas.Result.err_from_is_err_and}
-use Rattle.std.specs.Prelude.{IfSome, IfOk}
-use Rattle.tsp.specs.Request.{Spells}
+use Rattle.std.proofs.{Common.subst, Common.inl, lemmas.Result.err_from_is_err_and}
+use Rattle.std.specs.Prelude.{IfOk}
 use Rattle.desk.specs.{auxiliary.Beginnings.WaitsFor, Calls.settings_view, Calls.plan_of, Calls.refused, Calls.why_of}
-use Rattle.desk.specs.{Effects.name_of, Together.question_with, WaitingStamps.with_waiting}
+use Rattle.desk.specs.{Together.question_with, WaitingStamps.with_waiting}
 use Rattle.desk.proofs.stamps.BatchJudgement.{judged_err, judged_planned, found_settled}
 use Rattle.desk.proofs.stamp_start.judge_read.Goals as goal
-
-pub prepare-requires : goal.prepare-requires
-prepare-requires g c = record {
-  spelled = subst (λ r. IfSome c.args.query (λ q. Spells q.now r)) (sym c.in_ok-planned.ensures.same)
-      c.requires.spelled;
-  short = c.requires.short;
-}
 
 pub returns-in_err-planned-clause-judges : goal.returns-in_err-planned-clause-judges
 returns-in_err-planned-clause-judges g c octets spelled short given =

@@ -1,7 +1,7 @@
 use Rattle.std.proofs.{Common.sym, Common.◌∙◌, lemmas.Result.err_from_is_err_and}
 use Rattle.desk.specs.Calls.{in_force_of}
 use Rattle.desk.specs.declared.obstacle.Obstacle.TheVariants as obstacle
-use Rattle.desk.proofs.calls.Successions.{succeeded_already, unlooked, addition_told}
+use Rattle.desk.proofs.calls.Successions.{unlooked, addition_told}
 use Rattle.desk.proofs.calls.Wrapped.{call_ok, call_err, wrapped_is}
 use Rattle.desk.proofs.succession.install.Goals as goal
 
@@ -14,14 +14,6 @@ returns-in_err-latest-clause-step g c s algorithm =
     rw (told.1, told.2, refused.2) (unlooked g.B.Standing s (in_force_of c.args.identity.now algorithm)
     c.args.store.now c.is_installed.new.store refused.0 (rw refused.1 at looked.refusals) (rw refused.1 at looked.faults)
     looked.looks)
-
-pub returns-then-latest-clause-step : goal.returns-then-latest-clause-step
-returns-then-latest-clause-step g c s algorithm =
-    let looked = c.is_installed.ensures in
-    let is = call_ok obstacle.Looking c.is_installed.result c.in_ok-latest.latest c.in_ok-latest.ensures.cases in
-    succeeded_already g.B.Standing s (in_force_of c.args.identity.now algorithm) c.args.store.now
-    c.is_installed.new.store looked.looks (rw is at looked.faults)
-    (λ honest b st. sym c.if-latest.true ∙ (rw is at (looked.value honest b st)))
 
 pub returns-clause-step : goal.returns-clause-step
 returns-clause-step g c s algorithm =
