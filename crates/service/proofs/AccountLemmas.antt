@@ -45,10 +45,6 @@ module _ (counter file_counter : CounterValue) (looked : Looked) (asked reading 
             ∙ ap (λ d. count_of_day name d b) (on ∙ ap day_of h.1 ∙ day_rounded file_counter.fraction_digits h.0.now),
       )
 
-  pub used_unknown : (IsGood counter looked.clock → ⊥) → IsUsedAt file_counter (clock_of reading b) name b None
-  used_unknown bad =
-      subst (λ x. IsGood file_counter x → ⊥) same_clock (subst (λ x. IsGood x looked.clock → ⊥) of bad)
-
 -- what is told of an account is what the policy file and the store say of it
 pub account_told : {B W : Type 0} (g : Ghosts B) (contents : W → Option (List ℕ)) (seen : Seen) (asked : ℤ) (w w' : W)
     (old new : DeskValue B) (file : PolicyValue) (account : AccountValue) (used : Option ℕ) (body : List ℕ)

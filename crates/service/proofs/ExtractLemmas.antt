@@ -1,8 +1,8 @@
 -- The answer with an extract: its head, and then its octets as they come.
 use Rattle.std.proofs.Common.{◌≡◌, ◌∙◌, ℕ, ℤ, ◌+◌, ◌-◌, ◌^◌, ◌<◌, ◌≤◌, List, [], ◌++◌, Option, None, Some, length, take}
-use Rattle.std.proofs.Common.{refl, sym, ap, subst, length-append, length-take-le, arith, inl, inr}
+use Rattle.std.proofs.Common.{refl, sym, ap, subst, length-append, arith, inl, inr}
 use Rattle.std.proofs.KnownBytes.{Appends-nil, Appends-trans}
-use Rattle.std.proofs.lemmas.List.{take-append-le, take_all}
+use Rattle.std.proofs.lemmas.List.{take_all}
 use Rattle.std.specs.Io.KnownBytes.{Appends, Keeps}
 use Rattle.std.specs.Prelude.{◌≢◌, ◌⊎◌, MatchResult, Result, Ok, Err, codes}
 use Rattle.book.specs.{declared.standing.Standing.Ghosts, History.History, Stands.OnlyLooks, Stands.Stands}
@@ -31,21 +31,6 @@ text_of reading head body count states is =
 
 module _ {B W : Type 0} (g : Ghosts B) (contents : W → Option (List ℕ)) (reading : ℤ) (w mid w' : W) (old new : B)
     (from to count : ℕ) (head : List ℕ) (states : head ≡ extract_head reading count) where
-  -- a part of the head is written
-  pub head_cut : (n : ℕ) → n < length head → Appends (contents w) (contents w') (take n head)
-      → SendsExtract g contents reading w w' old new from to count (served.WriteFailed 200 n)
-  head_cut n short written = record {
-    sent = λ honest b stands is.
-        let body = extract_text from to b in
-        let text = text_of reading head body count states is in
-        let P : List ℕ → Type 0 = λ l. Appends (contents w) (contents w') l in (
-          refl,
-          omega (arith, short, ap length text, length-append head body),
-          subst P (sym (ap (take n) text ∙ take-append-le n head body (omega (arith, short)))) written,
-        );
-    told = (refl, take n head, length-take-le n head (omega (arith, short)), written);
-  }
-
   module _ (n octets : ℕ) (outcome : Result (Unit {0}) ExtractFault) (whole : length head ≤ n)
       (headed : Appends (contents w) (contents mid) (take n head))
       (rows : Writes g old new (contents mid) (contents w') from to octets outcome) where

@@ -28,9 +28,6 @@ returns-in-Keep-clause-served g c =
 pub returns-in-List-clause-served : goal.returns-in-List-clause-served
 returns-in-List-clause-served g c = rw c.in-List.is c.list.ensures.served
 
-pub returns-in-List-clause-failed : goal.returns-in-List-clause-failed
-returns-in-List-clause-failed g c = rw c.in-List.is (inr c.list.ensures.failed)
-
 pub returns-in-Deposit-clause-served : goal.returns-in-Deposit-clause-served
 returns-in-Deposit-clause-served g c = rw c.in-Deposit.is c.answer.ensures.served
 

@@ -1,13 +1,7 @@
 use Rattle.std.proofs.Common.{◌∙◌, arith, inr, subst, sym}
-use Rattle.service.specs.{Known.BeginsAt, Known.IsBehind, Known.IsKnown, Known.IsShort, declared.known.Known.Known}
-use Rattle.service.proofs.KnownLemmas.{begins_at, ends_behind, long_at, malformed_at}
+use Rattle.service.specs.{Known.BeginsAt, Known.IsKnown, declared.known.Known.Known}
+use Rattle.service.proofs.KnownLemmas.{begins_at, ends_behind, long_at}
 use Rattle.service.proofs.known.known_of.Goals as goal
-
-pub known_by_head-requires : goal.known_by_head-requires
-known_by_head-requires c =
-    begins_at _ _ _ c.requires.few (c.parse_request.auto.headers ∙ c.requires.fields)
-    (rw c.in-Ok-Complete.field-0-is at c.in-Ok-Complete.ensures.within)
-    (rw c.in-Ok-Complete.field-0-is at c.in-Ok-Complete.ensures.complete)
 
 pub returns-in-Ok-Complete-clause-behind : goal.returns-in-Ok-Complete-clause-behind
 returns-in-Ok-Complete-clause-behind c =
@@ -27,30 +21,3 @@ returns-in-Ok-Partial-2-clause-known c =
     (omega (arith, c.requires.few, c.if-octets-lt-MOST_OCTETS.false))
     (rw c.in-Ok-Partial.field-0-is at c.in-Ok-Partial.ensures.partial)
     (inr (rw c.in-Ok-Partial.field-0-is at c.in-Ok-Partial.ensures.unfinished)))
-
-pub returns-in-Ok-Partial-2-clause-behind : goal.returns-in-Ok-Partial-2-clause-behind
-returns-in-Ok-Partial-2-clause-behind c =
-    let P : Known → Type 0 = λ k. IsBehind c.args.before k in
-    subst P (sym c.headless.ensures) c.requires.before
-
-pub returns-in-Ok-Partial-2-clause-short : goal.returns-in-Ok-Partial-2-clause-short
-returns-in-Ok-Partial-2-clause-short c =
-    let P : Known → Type 0 = λ k. IsShort k in
-    subst P (sym c.headless.ensures) tt
-
-pub returns-in-Err-clause-known : goal.returns-in-Err-clause-known
-returns-in-Err-clause-known c =
-    let P : Known → Type 0 = λ k. IsKnown c.args.octets.now c.malformed_after.new.headers k in
-    subst P (sym c.headless-in-Err.ensures)
-    (malformed_at c.args.octets.now c.malformed_after.new.headers c.malformed_after.result
-    c.malformed_after.ensures.within c.malformed_after.ensures.headless)
-
-pub returns-in-Err-clause-behind : goal.returns-in-Err-clause-behind
-returns-in-Err-clause-behind c =
-    let P : Known → Type 0 = λ k. IsBehind c.args.before k in
-    subst P (sym c.headless-in-Err.ensures) c.malformed_after.ensures.behind
-
-pub returns-in-Err-clause-short : goal.returns-in-Err-clause-short
-returns-in-Err-clause-short c =
-    let P : Known → Type 0 = λ k. IsShort k in
-    subst P (sym c.headless-in-Err.ensures) tt

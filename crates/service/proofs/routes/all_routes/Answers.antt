@@ -17,11 +17,6 @@ added lines i d old new inside is adds =
     ∙ fold_push with_route [] (map line_view (take i lines)) (line_view (get_or lines i d))
     )
 
-pub loop-line-preserved : goal.loop-line-preserved
-loop-line-preserved c =
-    added c.lines-line-items.result.now c.loop-line.line-index _ c.loop-line.router c.add.new.router
-    c.loop-line-test.true c.loop-line.invariant c.in_ok-add.ensures
-
 pub returns : goal.returns
 unfolding routes
 returns c =

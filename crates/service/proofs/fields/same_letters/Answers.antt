@@ -1,5 +1,0 @@
-use Rattle.std.proofs.{lemmas.Bool.Decides.same_from_decides, lemmas.Slice.Eq.bytes_eq-Decides}
-use Rattle.service.proofs.fields.same_letters.Goals as goal
-
-pub returns : goal.returns
-returns c = same_from_decides c.eq_ignore_ascii_case.result _ c.eq_ignore_ascii_case.ensures.test (bytes_eq-Decides _ _)
