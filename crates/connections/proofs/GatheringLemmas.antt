@@ -134,6 +134,28 @@ module _ {L S C : Type 0} {hands : L → Option ℕ → ReceivedValue → S → 
     refused = cut.refused;
   }
 
+  -- those that are gathered without waiting
+  pub gathered_now : {stays : L → L → Type 0} {ones last : List (HandedValue S)} {old : L} {clock : C} {new : L}
+      {clock' : C} → AreGatheredBehind hands stays reads [] ones last old clock new clock'
+      → AreGathered hands stays reads None (ones ++ last) old clock new clock'
+  gathered_now behind = rw behind.behind behind.gathered
+
+  pub cut_fewer : {few most : ℕ} {old : L} {clock : C} {new : L} {clock' : C} → few ≤ most
+      → IsCutShort hands reads None few old clock new clock' → IsCutShort hands reads None most old clock new clock'
+  cut_fewer within cut = record {
+    gathered = cut.gathered;
+    fewer = omega (arith, within, cut.fewer);
+    between = cut.between;
+    handed = cut.handed;
+    asked = cut.asked;
+    given = cut.given;
+    received = cut.received;
+    stream = cut.stream;
+    last = cut.last;
+    fault = cut.fault;
+    refused = cut.refused;
+  }
+
   -- the first
   pub cut_alone : {old : L} {clock : C} {new : L} {clock' : C} {most : ℕ} → 0 < most → (received : ReceivedValue)
       (stream : S) → hands old (Some most) received stream new → (fault : ClockFailed) → reads clock (Err fault) clock'

@@ -1,18 +1,18 @@
 -- Those that were handed out, answered: one behind the other, and together.
-use Rattle.std.proofs.Common.{◌≡◌, ◌∙◌, ℕ, ◌+◌, ◌<◌, ◌≤◌, List, [], ◌∷◌, ◌++◌, length, map, Option, Result, Ok, Err}
-use Rattle.std.proofs.Common.{arith, refl, sym, ap, subst, IfOk, OnErr, MatchOption}
+use Rattle.std.proofs.Common.{◌≡◌, ◌∙◌, ℕ, ◌+◌, List, [], ◌∷◌, ◌++◌, length, map, Option, Result}
+use Rattle.std.proofs.Common.{arith, refl, sym, ap}
 use Rattle.std.proofs.lemmas.List.{append-nil, append_assoc, length-append, length-map, map-append}
-use Rattle.std.specs.{Result.result_ok, List.AllByRecursion}
+use Rattle.std.specs.List.{AllByRecursion}
 use Rattle.policy.specs.Record.{PolicyValue}
 use Rattle.book.specs.declared.standing.Standing.{Ghosts}
 use Rattle.cms.specs.declared.signer.SignerFault.{SignerFault}
-use Rattle.desk.specs.Together.{AreRejectedUnasked, IsAnsweredTogether}
 use Rattle.desk.specs.{Batches.Question, CallContract.DeskValue, Command.Answer, MachineRuns.Told, Outcome.Outcome}
+use Rattle.desk.specs.Together.{AreRejectedUnasked}
 use Rattle.service.specs.{Stamps.AsksStamp, declared.exchange.Exchanged.Exchanged}
-use Rattle.connections.specs.auxiliary.Gathering.{AreAsked, AreReplied, AreSent, AreWritten, IsSent}
-use Rattle.connections.specs.Parts.{Answered, HandedValue, Member, alone, together, IsAlone, IsMember, most_together}
-use Rattle.connections.specs.{Heard.Hall, Heard.AreAnswered, Heard.AreTakenBack, Heard.hall, Parts.answered_along}
-use Rattle.connections.proofs.PartsLemmas.{answered_then, done_then, handed_in_turn, taken_then}
+use Rattle.connections.specs.auxiliary.Gathering.{AreAsked, AreSent, AreServedAlone, AreWritten, IsSent}
+use Rattle.connections.specs.Parts.{Answered, HandedValue, Member, alone, IsAlone, IsMember}
+use Rattle.connections.specs.{Heard.Hall, Heard.AreAnswered, Heard.AreTakenBack, Parts.answered_along}
+use Rattle.connections.proofs.PartsLemmas.{answered_then, done_then, taken_then}
 
 -- as many replies as stamps
 pub as_many_judged : (file : PolicyValue) (asked : List Question) (answers : List Answer) (os : List Outcome)
@@ -116,26 +116,16 @@ module _ {L S : Type 0} (takes_back : L → S → Exchanged → L → Type 0) (c
   wrote_all all (one ∷ rest) replies old new as_many wrote =
       absurd (omega (arith, left_to_write all (one ∷ rest) replies old new wrote, as_many))
 
--- what holds of what came of a call
-pub on_ok : {A E : Type 0} (r : Result A E) (o : Option A) (P : Type 0) (Q : A → Type 0) → o ≡ result_ok r → OnErr r P
-    → IfOk r Q → MatchOption o P Q
-on_ok (Ok a) o P Q is refused done = subst (λ o. MatchOption o P Q) (sym is) done
-on_ok (Err e) o P Q is refused done = subst (λ o. MatchOption o P Q) (sym is) refused
-
-pub if_ok : {A E : Type 0} (r : Result A E) (P Q : A → Type 0) → ((a : A) → P a → Q a) → IfOk r P → IfOk r Q
-if_ok (Ok a) P Q more is = more a is
-if_ok (Err e) P Q more is = is
-
 module _ {S B X : Type 0} (contents : S → Option (List ℕ)) (g : Ghosts B)
     (signs : X → List ℕ → Result (List ℕ) SignerFault → X → Type 0) (count : X → ℕ) (file : PolicyValue) where
-  record Joined (written : List (Answered S)) (asked : List Question) (answers : List Answer) : Type 0 where
-    members : List (Member S)
-    are : map (λ m. m.answered) members ≡ written
-    questions : map (λ m. m.question) members ≡ asked
-    replies : map (λ m. m.reply) members ≡ answers
-    each : AllByRecursion (IsMember contents g signs count file) members
+  pub record Joined (written : List (Answered S)) (asked : List Question) (answers : List Answer) : Type 0 where
+    pub members : List (Member S)
+    pub are : map (λ m. m.answered) members ≡ written
+    pub questions : map (λ m. m.question) members ≡ asked
+    pub replies : map (λ m. m.reply) members ≡ answers
+    pub each : AllByRecursion (IsMember contents g signs count file) members
 
-  joined : (written : List (Answered S)) (asked : List Question) (answers : List Answer)
+  pub joined : (written : List (Answered S)) (asked : List Question) (answers : List Answer)
       → AreAsked file (map (λ a. a.handed) written) asked → AreSent contents written answers
       → Joined written asked answers
   joined [] [] [] each sent = record { members = []; are = refl; questions = refl; replies = refl; each = tt }
@@ -153,72 +143,57 @@ module _ {S B X : Type 0} (contents : S → Option (List ℕ)) (g : Ghosts B)
   joined (a ∷ written) [] answers each sent = absurd each
   joined (a ∷ written) (question ∷ asked) [] each sent = absurd sent
 
+module _ {S B X : Type 0} (contents : S → Option (List ℕ)) (g : Ghosts B)
+    (signs : X → List ℕ → Result (List ℕ) SignerFault → X → Type 0) (count : X → ℕ) where
+  abbrev Answers : List (Answered S) → DeskValue B → X → DeskValue B → X → Type 0
+  Answers = AreAnswered contents g signs count
+
+  pub answers_none : (desk : DeskValue B) (x : X) → Answers [] desk x desk x
+  answers_none desk x = record { parts = []; are = refl; done = (refl, refl) }
+
+  pub answers_more : (xs ys : List (Answered S)) (old : DeskValue B) (x : X) (mid : DeskValue B) (z : X)
+      (new : DeskValue B) (y : X) → Answers xs old x mid z → Answers ys mid z new y → Answers (xs ++ ys) old x new y
+  answers_more xs ys old x mid z new y first second = record {
+    parts = first.parts ++ second.parts;
+    are = answered_then first.parts second.parts
+        ∙ (ap (λ zs. zs ++ answered_along second.parts) first.are ∙ ap (λ zs. xs ++ zs) second.are);
+    done = done_then contents g signs count first.parts old x mid z second.parts new y first.done second.done;
+  }
+
 module _ {L S B X : Type 0} (takes_back : L → S → Exchanged → L → Type 0) (contents : S → Option (List ℕ))
     (g : Ghosts B) (signs : X → List ℕ → Result (List ℕ) SignerFault → X → Type 0) (count : X → ℕ) where
   abbrev All : List (HandedValue S) → Hall L (Unit {0}) B X → Hall L (Unit {0}) B X → Type 0
-  All = AreAnswered takes_back contents g signs count
+  All = AreServedAlone takes_back contents g signs count
 
   pub none_answered : (old : Hall L (Unit {0}) B X) → All [] old old
-  none_answered old = record { parts = []; are = refl; done = (refl, refl); back = refl }
+  none_answered old = record {
+    back = [];
+    are = refl;
+    answered = answers_none contents g signs count old.others.desk old.others.signer;
+    taken = refl;
+  }
 
   pub one_answered : (a : Answered S) (steps : List Told) (old new : Hall L (Unit {0}) B X)
       → IsAlone contents g signs count a steps old.others.desk old.others.signer new.others.desk new.others.signer
       → takes_back old.source a.stream_after a.exchanged new.source → All (a.handed ∷ []) old new
   one_answered a steps old new done back = record {
-    parts = alone a steps ∷ [];
+    back = a ∷ [];
     are = refl;
-    done = record { desk = new.others.desk; signer = new.others.signer; first = done; rest = (refl, refl) };
-    back = (new.source, (back, refl));
+    answered = record {
+      parts = alone a steps ∷ [];
+      are = refl;
+      done = record { desk = new.others.desk; signer = new.others.signer; first = done; rest = (refl, refl) };
+    };
+    taken = (new.source, (back, refl));
   }
 
   pub all_answered : (xs ys : List (HandedValue S)) (old mid new : Hall L (Unit {0}) B X) → All xs old mid
       → All ys mid new → All (xs ++ ys) old new
   all_answered xs ys old mid new first second = record {
-    parts = first.parts ++ second.parts;
-    are = handed_in_turn first.parts second.parts
-        ∙ (ap (λ zs. zs ++ map (λ a. a.handed) (answered_along second.parts)) first.are
-        ∙ ap (λ zs. xs ++ zs) second.are);
-    done = done_then contents g signs count first.parts old.others.desk old.others.signer mid.others.desk
-        mid.others.signer second.parts new.others.desk new.others.signer first.done second.done;
-    back = subst (λ zs. AreTakenBack takes_back old.source zs new.source)
-        (sym (answered_then first.parts second.parts))
-        (taken_then takes_back old.source (answered_along first.parts) mid.source (answered_along second.parts)
-        new.source first.back second.back);
+    back = first.back ++ second.back;
+    are = map-append (λ a. a.handed) first.back second.back
+        ∙ (ap (λ zs. zs ++ map (λ a. a.handed) second.back) first.are ∙ ap (λ zs. xs ++ zs) second.are);
+    answered = answers_more contents g signs count first.back second.back old.others.desk old.others.signer
+        mid.others.desk mid.others.signer new.others.desk new.others.signer first.answered second.answered;
+    taken = taken_then takes_back old.source first.back mid.source second.back new.source first.taken second.taken;
   }
-
-  pub together_answered : (ones : List (HandedValue S)) (answers : List Answer) (old new : L) (desk : DeskValue B)
-      (x : X) (desk' : DeskValue B) (y : X) → 1 < length ones → length ones ≤ most_together
-      → AreReplied g signs count ones answers desk x desk' y
-      → AreWritten takes_back contents ones answers old new
-      → All ones (hall old tt desk x) (hall new tt desk' y)
-  together_answered ones answers old new desk x desk' y several few replied wrote =
-      let file = desk.setting.file in
-      let j = joined contents g signs count file wrote.written replied.asked answers
-      (subst (λ xs. AreAsked file xs replied.asked) (sym wrote.are) replied.each) wrote.sent in
-      let are : map (λ a. a.handed) (map (λ m. m.answered) j.members) ≡ ones =
-      ap (map (λ a. a.handed)) j.are ∙ wrote.are in
-      let as_many = length-map (map (λ m. m.answered) j.members) (λ a. a.handed) in
-      let as_many_members = length-map j.members (λ m. m.answered) in
-      let lengths = ap length are in
-      record {
-        parts = together j.members ∷ [];
-        are = ap (map (λ a. a.handed)) (append-nil (map (λ m. m.answered) j.members)) ∙ are;
-        done = record {
-          desk = desk';
-          signer = y;
-          first = record {
-            several = omega (arith, several, as_many, as_many_members, lengths);
-            few = omega (arith, few, as_many, as_many_members, lengths);
-            setting = replied.setting;
-            honest = replied.honest;
-            each = j.each;
-            answered = subst (λ asked. IsAnsweredTogether g signs count desk.setting asked
-                (map (λ m. m.reply) j.members) desk.store x desk'.store y) (sym j.questions)
-                (subst (λ says. IsAnsweredTogether g signs count desk.setting replied.asked says desk.store x desk'.store
-                y) (sym j.replies) replied.answered);
-          };
-          rest = (refl, refl);
-        };
-        back = subst (λ zs. AreTakenBack takes_back old zs new)
-            (sym (append-nil (map (λ m. m.answered) j.members) ∙ j.are)) wrote.back;
-      }

@@ -1,4 +1,5 @@
 pub mod ClosingLemmas
+pub mod FlightLemmas
 pub mod GatheringLemmas
 pub mod GroupLemmas
 pub mod HeardLemmas
@@ -6,4 +7,5 @@ pub mod MetLemmas
 pub mod PartsLemmas
 pub mod PlacesLemmas
 pub mod RunLemmas
+pub mod TurnLemmas
 pub mod UntoldLemmas

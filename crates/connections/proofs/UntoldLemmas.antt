@@ -194,15 +194,18 @@ module _ {S B X : Type 0} (contents : S → Option (List ℕ)) (g : Ghosts B)
   bare_part_done (together members) old x new y done =
       let as_many = length-map members bare_member in
       record {
-        several = omega (arith, as_many, done.several);
-        few = omega (arith, as_many, done.few);
+        batches = done.batches;
+        some = done.some;
+        each_some = omega (arith, as_many, done.each_some);
+        each_few = omega (arith, as_many, done.each_few);
         setting = done.setting;
         honest = done.honest;
         each = bare_each old.setting.file members done.each;
-        answered = subst (λ asked. IsAnsweredTogether g signs count old.setting asked
+        answered = subst (λ asked. IsAnsweredTogether g signs count old.setting done.batches asked
             (map (λ m. m.reply) (map bare_member members)) old.store x new.store y) (sym (bare_questions members))
-            (subst (λ answers. IsAnsweredTogether g signs count old.setting (map (λ m. m.question) members) answers
-            old.store x new.store y) (sym (bare_replies members)) done.answered);
+            (subst (λ answers. IsAnsweredTogether g signs count old.setting done.batches
+            (map (λ m. m.question) members) answers old.store x new.store y) (sym (bare_replies members))
+            done.answered);
       }
 
   pub bare_done : (parts : List (Part S)) (old : DeskValue B) (x : X) (new : DeskValue B) (y : X)

@@ -1,6 +1,6 @@
 -- Connections that were handed out one after the other, and what comes of them in that order: one is served by itself,
 -- or the stamps that several ask for are answered together.
-use Rattle.std.specs.Prelude.{◌≡◌, ℕ, ◌<◌, ◌≤◌, ℤ, true, List, [], ◌∷◌, ◌++◌, map, length, take, Option, Result}
+use Rattle.std.specs.Prelude.{◌≡◌, ℕ, ◌*◌, ◌<◌, ◌≤◌, ℤ, true, List, [], ◌∷◌, ◌++◌, map, length, take, Option, Result}
 use Rattle.std.specs.{Io.KnownBytes.Consumes, Io.KnownBytes.IsAtEnd, List.AllByRecursion}
 use Rattle.policy.specs.Record.{PolicyValue}
 use Rattle.book.specs.declared.standing.Standing.{Ghosts}
@@ -39,7 +39,7 @@ pub record Member (S : Type 0) : Type 0 where
 pub data Part (S : Type 0) : Type 0 where
   -- one, which is served by itself, and the steps that the desk took for it
   alone : Answered S → List Told → Part S
-  -- several, whose stamps are answered together
+  -- those whose stamps are answered together, in batches
   together : List (Member S) → Part S
 
 abbrev pub answered_in : {S : Type 0} → Part S → List (Answered S)
@@ -54,7 +54,7 @@ answered_along (part ∷ parts) = answered_in part ++ answered_along parts
 abbrev pub handed_along : {S : Type 0} → List (Part S) → List (HandedValue S)
 handed_along parts = map (λ a. a.handed) (answered_along parts)
 
--- the most whose stamps are answered together
+-- the most of one batch
 abbrev pub most_together : ℕ
 most_together = 64
 
@@ -90,15 +90,17 @@ module _ {S B X : Type 0} (contents : S → Option (List ℕ)) (g : Ghosts B)
         (answer_to (stamp_for m.question) m.reply) m.answered.exchanged.served
     pub all : TellsAll m.answered
 
-  -- The desk answers the stamps of all of them together.
+  -- The desk answers the stamps of all of them together, in batches of one at least, and of the most at most.
   pub record AreTogether (members : List (Member S)) (old : DeskValue B) (x : X) (new : DeskValue B) (y : X) : Type 0
     where
-      pub several : 1 < length members
-      pub few : length members ≤ most_together
+      pub batches : ℕ
+      pub some : 0 < batches
+      pub each_some : batches ≤ length members
+      pub each_few : length members ≤ batches * most_together
       pub setting : new.setting ≡ old.setting
       pub honest : g.honest new.store → g.honest old.store
       pub each : AllByRecursion (IsMember old.setting.file) members
-      pub answered : IsAnsweredTogether g signs count old.setting (map (λ m. m.question) members)
+      pub answered : IsAnsweredTogether g signs count old.setting batches (map (λ m. m.question) members)
           (map (λ m. m.reply) members) old.store x new.store y
 
   abbrev pub IsDone : Part S → DeskValue B → X → DeskValue B → X → Type 0

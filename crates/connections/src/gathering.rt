@@ -1,8 +1,9 @@
 //! Connections that are handed out one after the other, before the first of them is answered.
-ghost use Rattle.std.specs.Prelude.{◌≡◌, ◌+◌, ◌-◌, ◌<◌, ◌≤◌, [], length, map, Some, None, Ok, Err, IfOk, IfSome};
+ghost use Rattle.std.specs.Prelude.{◌≡◌, ℕ, ◌+◌, ◌-◌, ◌<◌, ◌≤◌, [], length, map, Some, None, Ok, Err, IfOk, IfSome};
 ghost use Rattle.std.specs.Prelude.{MatchOption, MatchResult, OnErr, vec_capacity, vec_len};
-ghost use Rattle.connections.specs.auxiliary.Gathering.{AreGatheredBehind, gathered_in, handed_view, last_in};
-ghost use Rattle.connections.specs.{Heard.AreGathered, Heard.IsCutShort, Parts.most_together};
+ghost use Rattle.connections.specs.auxiliary.Gathering.{AreGatheredBehind, AreGatheredNow, IsCutNow, gathered_in};
+ghost use Rattle.connections.specs.auxiliary.Gathering.{handed_view, last_in};
+ghost use Rattle.connections.specs.{Heard.AreAccepted, Heard.AreGathered, Heard.IsCutShort, Parts.most_together};
 
 use crate::clock::{Clock, ClockFailed};
 use crate::request_source::RequestSource;
@@ -64,6 +65,18 @@ fn read_for<S: Drop, C: Clock>(
     })
 }
 
+/// Room for so many whose stamps can be answered together, or for fewer: for none where memory wants.
+fn room_for<S: Drop>(most: usize, alloc: Global) -> Vec<Handed<S>>
+    ensures empty { result.items ≡ [] }
+    ensures few { vec_capacity result ≤ most }
+    ensures together { vec_capacity result ≤ most_together }
+{
+    match Vec::with_capacity(alloc, most.min(MOST_TOGETHER)) {
+        Ok(room) => room,
+        Err(_) => Vec::new(alloc),
+    }
+}
+
 /// Room for it and those whose stamps can be answered with its own: for none where it asks for something else, or
 /// memory wants.
 fn room_beside<S: Drop>(first: &Handed<S>, most: usize, alloc: Global) -> Vec<Handed<S>>
@@ -74,10 +87,7 @@ fn room_beside<S: Drop>(first: &Handed<S>, most: usize, alloc: Global) -> Vec<Ha
     if !first.request.asks_stamp() {
         return Vec::new(alloc);
     }
-    match Vec::with_capacity(alloc, most.min(MOST_TOGETHER)) {
-        Ok(room) => room,
-        Err(_) => Vec::new(alloc),
-    }
+    room_for(most, alloc)
 }
 
 /// Gathers those that are whole already, as long as they ask for stamps, and there is room; the one that asks for
@@ -139,4 +149,40 @@ pub(crate) fn gather<L: RequestSource, C: Clock>(
     stamps.push_reserved(first);
     let last = gather_behind(source, clock, &mut stamps)?;
     Ok(Some(Gathering { stamps, last }))
+}
+
+/// Takes those that are there by now, while at most so many are waited for. How many of these are left to be counted.
+fn accept_some<L: RequestSource>(source: &mut L, most: usize) -> usize
+    requires some { 0 < most }
+    ensures { (failed : ℕ) × AreAccepted L.fails L.accepts most failed source.old source.new
+        × (failed + result ≡ most) }
+{
+    if source.accept_now(most) {
+        most - 1
+    } else {
+        most
+    }
+}
+
+/// Takes those that are there by now, and gathers what is whole then, without waiting, as long as they ask for stamps;
+/// the one that asks for something else ends it. At most so many of all, each at a reading of its own, and one that
+/// failed is one of them. How many of these are left.
+pub(crate) fn gather_now<L: RequestSource, C: Clock>(
+    source: &mut L,
+    most: usize,
+    clock: &mut C,
+) -> Result<(Gathering<L::Stream>, usize), ClockFailed>
+    requires some { 0 < most }
+    ensures gathered { IfOk result (λ these. AreGatheredNow L.hands L.fails L.accepts L.stays C.reads most
+        (gathered_in these.0) these.1 source.old clock.old source.new clock.new) }
+    ensures stamps { IfOk result (λ these. length these.0.stamps.items ≤ most_together) }
+    ensures cut { OnErr result (IsCutNow L.hands L.fails L.accepts C.reads most source.old clock.old source.new
+        clock.new) }
+{
+    let left = accept_some(source, most);
+    let mut stamps = room_for(left, source.alloc());
+    let last = gather_behind(source, clock, &mut stamps)?;
+    let gathering = Gathering { stamps, last };
+    let count = gathering.count();
+    Ok((gathering, left - count))
 }

@@ -220,6 +220,28 @@ impl<'l, A: Acceptor + Drop, R: AllocGlobal + Clock + Timer> Reactor<'l, A, R> {
         None
     }
 
+    /// Takes the connections of which the system tells, without waiting, as long as fewer than so many are waited for
+    /// and the clock can be read, and drops what is there of those that are being closed. Whether one failed.
+    fn take_now(&mut self, most: usize) -> bool
+        ensures failed { result ≡ true → FailsOne A.tells R.shows A.Stream.remaining A.Stream.fails most
+            (intake self.old.acceptor self.old.places) (intake self.new.acceptor self.new.places) }
+        ensures added { result ≡ false → AreAdded A.tells R.shows most
+            (intake self.old.acceptor self.old.places) (intake self.new.acceptor self.new.places) }
+    {
+        let Ok(now) = self.rt.moment() else {
+            return false;
+        };
+        if self
+            .poll
+            .poll(&mut self.events, Some(Duration::ZERO))
+            .is_ok()
+        {
+            self.hear_all();
+        }
+        self.close_some(now);
+        self.take(now, most)
+    }
+
     /// Another connection whose request is whole already, without waiting: first of those that were heard of, and then
     /// of those of which the system tells.
     fn another_whole(&mut self) -> Option<WaitingConnection<A::Stream>>
@@ -447,6 +469,9 @@ impl<'l, A: Acceptor + Drop, R: AllocGlobal + Clock + Timer> RequestSource for R
     ghost fails = { λ old most new. FailsOne A.tells R.shows A.Stream.remaining A.Stream.fails most
         (intake old.acceptor old.places) (intake new.acceptor new.places) };
 
+    ghost accepts = { λ old most new. AreAdded A.tells R.shows most (intake old.acceptor old.places)
+        (intake new.acceptor new.places) };
+
     ghost stays = { λ old new. (new.acceptor ≡ old.acceptor) × AreAllUnfinished A.Stream.remaining A.Stream.fails
         (places_of old.places) (places_of new.places) };
 
@@ -474,6 +499,10 @@ impl<'l, A: Acceptor + Drop, R: AllocGlobal + Clock + Timer> RequestSource for R
             }
             None => None,
         }
+    }
+
+    fn accept_now(&mut self, most: usize) -> bool {
+        self.take_now(most)
     }
 
     fn take_back(&mut self, stream: Limited<'l, R, A::Stream>, exchanged: Exchanged) {

@@ -1,5 +1,5 @@
 //! What connections are heard on.
-ghost use Rattle.std.specs.Prelude.{ℕ, Option, Some, None, MatchOption};
+ghost use Rattle.std.specs.Prelude.{◌≡◌, ℕ, true, false, Option, Some, None, MatchOption};
 ghost use Rattle.service.specs.{Received.ReceivedValue, declared.exchange.Exchanged.Exchanged as SpecExchanged};
 
 use service::{Exchanged, Request};
@@ -18,6 +18,9 @@ pub trait RequestSource {
 
     // one failed, or was given up for another, while at most so many were waited for
     ghost fails: { Self → ℕ → Self → Type 0 } = { λ _ _ _. Unit {0} };
+
+    // those that are there are taken without waiting, while at most so many are waited for, and none failed
+    ghost accepts: { Self → ℕ → Self → Type 0 } = { λ _ _ _. Unit {0} };
 
     // it was asked for one whose request is whole already, and there is none
     ghost stays: { Self → Self → Type 0 } = { λ _ _. Unit {0} };
@@ -41,6 +44,12 @@ pub trait RequestSource {
     fn next_now(&mut self) -> Option<(Request, Self::Stream)>
         ensures { MatchOption result (stays self.old self.new)
             (λ whole. hands self.old None whole.0 whole.1 self.new) };
+
+    /// Takes connections that are there by now, without waiting, as long as fewer than so many are waited for; those
+    /// whose requests are whole `next_now` may give from then on. Whether one failed, or was given up for another.
+    fn accept_now(&mut self, most: usize) -> bool
+        ensures failed { result ≡ true → fails self.old most self.new }
+        ensures accepted { result ≡ false → accepts self.old most self.new };
 
     /// Takes back a connection whose answer was written, and what became of it.
     fn take_back(&mut self, stream: Self::Stream, exchanged: Exchanged)

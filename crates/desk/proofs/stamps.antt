@@ -1,13 +1,15 @@
 pub mod Among
 pub mod Assembly
-pub mod Answered
 pub mod BatchJudgement
 pub mod Batches
 pub mod Beginnings
 pub mod Committed
 pub mod Completions
 pub mod Endings
-pub mod Halves
+pub mod FlightRuns
+pub mod Flights
+pub mod Judged
 pub mod Judgement
+pub mod Rows
 pub mod StampReplies
 pub mod Stamps

@@ -7,7 +7,7 @@ use Rattle.book.specs.History.{Entry, Reserved, Sealed, History, ReservationValu
 use Rattle.book.specs.{Entries.with_all, Shows.ShowsSame, Sound.IsSound}
 use Rattle.desk.specs.Command.{Setting, Command, Stamp, Answer}
 use Rattle.desk.specs.{Outcome.Outcome, Outcome.faults_after, Effects.Effect, MachineStep.HasEffect, MachineStep.Moves}
-use Rattle.desk.specs.{MachineRuns.Runs, MachineRuns.Told, Laws.Continues}
+use Rattle.desk.specs.{MachineRuns.Runs, MachineRuns.Told, MachineRuns.after, Laws.Continues}
 
 -- who asks for a stamp, at which reading of the clock, by which octets
 pub record Question : Type 0 where
@@ -53,6 +53,11 @@ HaveEffects s [] [] b (e ∷ es) = ⊥
 HaveEffects s [] (o ∷ os) b es = ⊥
 HaveEffects s (a ∷ asked) [] b es = ⊥
 HaveEffects s (a ∷ asked) (o ∷ os) b [] = ⊥
+
+-- the history after each of these effects, one after the other
+abbrev pub after_each : List Effect → History → History
+after_each [] b = b
+after_each (e ∷ es) b = after_each es (after e b)
 
 -- what the stamps of a batch reserve, in their order
 abbrev pub all_reserved : List Effect → List ReservationValue

@@ -14,6 +14,7 @@ pub mod Facts
 pub mod Fault
 pub mod Findings
 pub mod Fit
+pub mod Flights
 pub mod Laws
 pub mod MachineRuns
 pub mod MachineStep
@@ -30,6 +31,7 @@ pub mod Sight
 pub mod Succession
 pub mod Texts
 pub mod Together
+pub mod Verdicts
 pub mod Viewers
 pub mod WaitingStamps
 pub mod auxiliary

@@ -1,18 +1,18 @@
 -- Stamps that are answered together: what is asked, what comes of it, and what a stop after them may leave.
-use Rattle.std.specs.Prelude.{◌≡◌, ℕ, ◌⊎◌, List, [], ◌∷◌, ◌++◌, map, Result, Ok, Err}
+use Rattle.std.specs.Prelude.{◌≡◌, ℕ, ◌+◌, ◌⊎◌, List, [], ◌∷◌, ◌++◌, length, map, Result, Ok, Err}
 use Rattle.std.specs.List.{AllByRecursion}
 use Rattle.policy.specs.Record.{PolicyValue}
 use Rattle.tsp.specs.{Rules.IsFirstFailing, declared.rule.Rule.Rule}
 use Rattle.cms.specs.{Signer.count_after_each, declared.signer.SignerFault.SignerFault}
 use Rattle.cms.specs.declared.signer.SignerFault.TheVariants as signer
 use Rattle.decide.specs.View.{account_asked}
-use Rattle.book.specs.{declared.standing.Standing.Ghosts, History.Entry, History.Reserved, History.History}
-use Rattle.book.specs.{History.ReservationValue, Shows.ShowsSame, Sound.IsSound, Stands.Stands, Stands.OnlyLooks}
-use Rattle.desk.specs.Outcome.{Call, Fine, Outcome, counted}
+use Rattle.book.specs.{declared.standing.Standing.Ghosts, History.Entry, History.History, History.ReservationValue}
+use Rattle.book.specs.{Shows.ShowsSame, Stands.Stands}
+use Rattle.desk.specs.Commits.{CommitValue, AreCommitted, AreOfSome, reserved_last, reserved_along, accepted_along}
 use Rattle.desk.specs.Command.{Setting, Answer, Rejected}
-use Rattle.desk.specs.Batches.{Question, SealValue, stamp_for, stamps_for, seal_entry, with_reserved}
+use Rattle.desk.specs.Batches.{Question, stamp_for, stamps_for}
 use Rattle.desk.specs.{MachineRuns.Runs, MachineRuns.Told, RunContract.ArePromised, Findings.HoldsUnasked}
-use Rattle.desk.specs.{Batches.IsCutTogether, Batches.faults_along, Commits.IsCommitted, Commits.if_accepted}
+use Rattle.desk.specs.{Batches.IsCutTogether, Batches.faults_along, Commits.counted_along, Outcome.Fine, Outcome.Outcome}
 use Rattle.desk.specs.{Effects.name_of, Fit.IsFit, declared.batch.Asked.Asked, declared.findings.Requested.Requested}
 
 abbrev pub question_view : Asked → Question
@@ -44,18 +44,37 @@ AreSignedAlike (o ∷ os) [] = ⊥
 abbrev pub AreRejections : List Answer → Type 0
 AreRejections answers = AllByRecursion (λ answer. (rule : Rule) × (answer ≡ Rejected rule)) answers
 
--- One of the two commits was refused, and with it each of the stamps: where it is there after all, a history that shows
--- what the last one shows, with what was in doubt.
+-- Whatever the signer, the stamps lead from the one history to the other, under these outcomes, and are answered so.
+abbrev pub Leads : Setting → List Question → List Outcome → History → List Answer → History → Type 0
+Leads s asked os b answers last =
+    Runs {S = Unit {0}} (λ x text answer y. Unit {0}) s (stamps_for asked) os b tt answers last tt
+
+-- a list in three parts
+pub record InParts {X : Type 0} (all : List X) : Type 0 where
+  pub before : List X
+  pub among : List X
+  pub behind : List X
+  pub are : all ≡ before ++ (among ++ behind)
+
+-- A commit of a stretch of the stamps was refused, and with it each of these: what it would have added is there after
+-- all, behind all that was. Those before lead to where the stretch began, and those behind it have added nothing: a
+-- history that shows what the last one shows, with what was in doubt.
 pub record IsDoubtedTogether {B : Type 0} (g : Ghosts B) (s : Setting) (asked : List Question) (os : List Outcome)
     (answers : List Answer) (b last : History) (left : g.Left) : Type 0 where
-  pub refused : AreRejections answers
+  pub questions : InParts asked
+  pub outcomes : InParts os
+  pub told : InParts answers
+  pub from : History
+  pub before : Leads s questions.before outcomes.before b told.before from
+  pub leads : Leads s questions.among outcomes.among from told.among last
+  pub refused : AreRejections told.among
   pub history : History
   pub doubted : List Entry
   pub same : ShowsSame history (doubted ++ last)
-  -- It is what a stop in a run over the stamps leaves,
-  pub cut : (w : List Told) → IsCutTogether s asked b w history
+  -- It is what a stop in a run over the stamps of the stretch leaves,
+  pub cut : (w : List Told) → IsCutTogether s questions.among from w history
   -- in which nothing is signed otherwise.
-  pub signed : (w : List Told) → AreSignedAlike os (cut w).outcomes
+  pub signed : (w : List Told) → AreSignedAlike outcomes.among (cut w).outcomes
   pub holds : g.holds left history
 
 -- What a stop after the stamps may leave: where nothing was added, what it could leave before; the history after them;
@@ -94,51 +113,37 @@ AreRejectedUnasked file [] (answer ∷ answers) os = ⊥
 AreRejectedUnasked file (a ∷ asked) [] os = ⊥
 AreRejectedUnasked file (a ∷ asked) (answer ∷ answers) [] = ⊥
 
--- in their order, each of these is of another of those, at most one of each
-abbrev pub AreOfSome : {X Y : Type 0} → (X → Y → Type 0) → List X → List Y → Type 0
-AreOfSome IsOf xs [] = Unit {0}
-AreOfSome IsOf [] (y ∷ ys) = ⊥
-AreOfSome IsOf (x ∷ xs) (y ∷ ys) = (IsOf x y × AreOfSome IsOf xs ys) ⊎ AreOfSome IsOf xs (y ∷ ys)
-
 -- it is for a stamp that passes the rules 1 to 9, by its octets
 abbrev pub IsForPassing : PolicyValue → Question → ReservationValue → Type 0
 IsForPassing file a r = (FailsUnasked file a → ⊥) × (r.account ≡ name_of a.account) × (r.request ≡ a.octets)
 
--- The two commits, whatever the store returns: of reservations for stamps that pass the rules 1 to 9, and, once they
--- are accepted, of tokens under their numbers. Besides, the store is only looked at.
-pub record IsCommittedTogether {B : Type 0} (g : Ghosts B) (file : PolicyValue) (asked : List Question)
-    (reserving sealing : Call) (old new : B) : Type 0 where
-  pub reserved : List ReservationValue
-  pub passing : AreOfSome (IsForPassing file) asked reserved
-  -- there are histories that they fit, so that their commit is of none else
-  pub fit : IsSound (with_reserved reserved [])
-  pub sealed : List SealValue
-  pub numbers : AreOfSome (λ r v. v.serial ≡ r.serial) (if_accepted reserving reserved) sealed
-  -- the store before and after the first, and before the second
-  pub judged : B
-  pub held : B
-  pub signed : B
-  pub looks : OnlyLooks g old judged
-  pub reserves : IsCommitted g (map Reserved reserved) judged held reserving
-  pub waits : OnlyLooks g held signed
-  pub seals : IsCommitted g (map seal_entry sealed) signed new sealing
+-- The commits, whatever the store returns: in the order of the stamps, of reservations for those that pass the rules 1
+-- to 9, and, once they are accepted, of tokens under their numbers. Besides, the store is only looked at.
+pub record AreCommittedTogether {B : Type 0} (g : Ghosts B) (file : PolicyValue) (asked : List Question)
+    (commits : List CommitValue) (old new : B) : Type 0 where
+  pub passing : AreOfSome (IsForPassing file) asked (reserved_along commits)
+  pub done : AreCommitted g commits old new
 
--- Stamps that are answered together are a run, under outcomes that fit them. The store counts what their judging met,
--- and the two commits. By the rules 1 to 9 each is judged whatever store and signer do, and nothing is added for one
--- that fails one of them; where nothing is reserved, the signer isn't asked.
+-- Stamps that are answered together, in so many batches, are a run, under outcomes that fit them. All of a batch that
+-- are reserved are so in one commit, and all that are signed are sealed in the next, which reserves those of the next
+-- batch, if there is one. The store counts what their judging met, and the commits. By the rules 1 to 9 each is judged
+-- whatever store and signer do, and nothing is added for one that fails one of them; where nothing is reserved, the
+-- signer isn't asked.
 pub record IsAnsweredTogether {B S : Type 0} (g : Ghosts B)
-    (signs : S → List ℕ → Result (List ℕ) SignerFault → S → Type 0) (count : S → ℕ) (s : Setting)
+    (signs : S → List ℕ → Result (List ℕ) SignerFault → S → Type 0) (count : S → ℕ) (s : Setting) (batches : ℕ)
     (asked : List Question) (answers : List Answer) (old : B) (x : S) (new : B) (y : S) : Type 0 where
   pub outcomes : List Outcome
   pub fits : AreFit asked outcomes
   -- what the judging met, which commits nothing
   pub looks : List Outcome
   pub uncommitted : AllByRecursion (λ o. (o.adding ≡ Fine) × (o.sealing ≡ Fine)) looks
-  pub reserving : Call
-  pub sealing : Call
-  pub counted : g.fault_count new ≡ counted sealing (counted reserving (faults_along looks (g.fault_count old)))
+  -- the last of them first, which reserves nothing
+  pub commits : List CommitValue
+  pub many : length commits ≡ batches + 1
+  pub ended : reserved_last commits ≡ []
+  pub counted : g.fault_count new ≡ counted_along commits (faults_along looks (g.fault_count old))
   pub signer : count y ≡ count_after_each (map (λ o. o.signing) outcomes) (count x)
   pub judged : AreRejectedUnasked s.file asked answers outcomes
-  pub commits : IsCommittedTogether g s.file asked reserving sealing old new
-  pub unasked : if_accepted reserving commits.reserved ≡ [] → y ≡ x
+  pub committed : AreCommittedTogether g s.file asked commits old new
+  pub unasked : accepted_along commits ≡ [] → y ≡ x
   pub run : g.honest new → (b : History) → Stands g b old → RunsTogether g signs s asked outcomes answers b old x new y

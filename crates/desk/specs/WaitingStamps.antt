@@ -1,6 +1,7 @@
 -- Stamps that wait: what is reserved for each, and what waits for its signature then.
-use Rattle.std.specs.Prelude.{◌≡◌, ℕ, List, map}
+use Rattle.std.specs.Prelude.{◌≡◌, ℕ, List, map, Option}
 use Rattle.der.specs.ObjectIdentifier.{oid_content}
+use Rattle.tsp.specs.declared.rule.Rule.{Rule}
 use Rattle.cms.specs.{Identity.IdentityValue, SignedData.attribute_text}
 use Rattle.book.specs.History.{History, ReservationValue}
 use Rattle.desk.specs.{Batches.with_reserved, Command.Setting, Command.PendingValue}
@@ -43,3 +44,17 @@ HasText s w = w.unsigned.text.items ≡ attribute_text s.in_force.identity w.uns
 -- the history with all that waits reserved, the first of the list first
 abbrev pub with_waiting : List WaitingStamp → History → History
 with_waiting ws b = with_reserved (map waiting_view ws) b
+
+-- A batch up to its signatures: by which setting it was begun, for each stamp the rule by which it is rejected, or
+-- none, where it waits, and those that wait.
+pub record BatchValue : Type 0 where
+  pub setting : Setting
+  pub rules : List (Option Rule)
+  pub pendings : List PendingValue
+
+abbrev pub waits_by : Setting → List UnsignedToken → List PendingValue
+waits_by s us = map (pending_by s.in_force.identity s.in_force.algorithm) us
+
+-- the texts that are signed
+abbrev pub texts_of : List PendingValue → List (List ℕ)
+texts_of ps = map (λ p. attribute_text p.identity p.tst) ps

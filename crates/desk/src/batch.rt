@@ -1,20 +1,18 @@
 //! Stamps that are answered together.
-ghost use Rattle.std.specs.Prelude.{◌≡◌, map, IfOk, IfErr, OnErr, OnOk};
+ghost use Rattle.std.specs.Prelude.{◌≡◌, ℕ, ◌+◌, List, [], ◌++◌, None, map, IfOk, IfErr, OnErr, OnOk, MatchOption};
 ghost use Rattle.desk.specs.Together.{questions_view, IsAnsweredTogether};
-ghost use Rattle.desk.specs.{Answers.reply_as, Calls.settings_view, Sent.SendsReserved};
+ghost use Rattle.desk.specs.{Answers.reply_as, Batches.Question, Command.Answer, Flights.HasEnded, Flights.IsFlight};
+ghost use Rattle.desk.specs.{Flights.IsUnderway, Sent.SendsReserved};
 
-use crate::batch_start::begin_each;
-use crate::completion::finish_each;
+use crate::batch_start::begin_behind;
+use crate::completion::finish_older;
 use crate::desk::Desk;
 use crate::fault::Fault;
-use crate::pending_batch::{room_for, texts_of};
+use crate::pending_batch::{PendingBatch, rooms_of, send_texts};
 use crate::reply::Reply;
-use crate::settings::Settings;
-use book::{Book, histories_show_the_same};
+use book::Book;
 use cms::Signer;
 use policy::Account;
-use std::alloc::Global;
-use tsp::requests_have_one_reading;
 
 /// A stamp that is asked for.
 #[derive(Clone, Copy)]
@@ -27,38 +25,58 @@ pub struct Asked<'a> {
     pub query: &'a [u8],
 }
 
-/// Answers stamps together. Room for all lists is taken first.
-fn answer_together<B: Book + Drop, G: Signer>(
-    store: &mut B,
-    alloc: Global,
-    settings: Settings<'_>,
-    asked: &[Asked<'_>],
-    signer: &mut G,
-) -> Result<Vec<Reply>, Fault>
-    ensures honest { B.honest store.new → B.honest store.old }
-    ensures memory { IfErr result (λ fault. fault ≡ Fault.Memory) }
-    ensures unmoved { OnErr result ((store.new ≡ store.old) × (signer.new ≡ signer.old)) }
-    ensures together { IfOk result (λ replies. IsAnsweredTogether B.Standing G.signs G.fault_count
-        (settings_view settings.entry) (questions_view asked.now) (map reply_as replies.items) store.old signer.old
-        store.new signer.new) }
-    ensures sent { OnOk result (SendsReserved B.Standing G.sent (settings_view settings.entry)
-        (questions_view asked.now) store.old signer.old store.new signer.new) }
-{
-    requests_have_one_reading();
-    histories_show_the_same();
-    let mut answers = room_for(alloc, asked.len())?;
-    let room = room_for(alloc, asked.len())?;
-    let pending = begin_each(store, alloc, settings, asked)?;
-    {
-        let texts = texts_of(&pending.waits, room);
-        signer.sign_each(&texts, &mut answers);
-    }
-    let replies = finish_each(store, alloc, pending, &answers);
-    store.tell_the_same();
-    Ok(replies)
-}
-
 impl<'p, B: Book + Drop> Desk<'p, B> {
+    /// Begins stamps together, behind those that were begun before, if some were, and answers these: a reply for each,
+    /// in their order. The new ones are judged by the history with the reservations of the older ones, and of those
+    /// before each. Then the older ones' signatures are received, and all that were signed are sealed in the commit
+    /// that reserves all of the new ones that no rule refuses. Where it is refused, all that waited for it are rejected
+    /// by rule 12, of either batch. The texts of the new ones are handed to the signer last.
+    ///
+    /// Room for all that is written until the new ones are answered is taken first: where it is refused, none of them
+    /// is begun, and the older ones are finished as by `finish_each`.
+    pub fn begin_each<G: Signer>(
+        &mut self,
+        older: Option<PendingBatch<'p>>,
+        asked: &[Asked<'_>],
+        signer: &mut G,
+    ) -> (Vec<Reply>, Option<PendingBatch<'p>>)
+        ensures honest { B.honest self.new.store → B.honest self.old.store }
+        ensures setting { self.new.setting ≡ self.old.setting }
+        ensures goes_on { (batches : ℕ) (done : List Question) (answers : List Answer) (waiting : List Question)
+            (old : B) (x : G) → IsFlight B.Standing G.signs G.fault_count G.sent G.awaits self.old.setting batches done
+            answers waiting older.entry old x self.old.store signer.old
+            → MatchOption result.1 (HasEnded B.Standing G.signs G.fault_count G.sent G.awaits self.old.setting batches
+            (done ++ waiting) (answers ++ map reply_as result.0.items) old x self.new.store signer.new)
+            (λ begun. IsUnderway B.Standing G.signs G.fault_count G.sent G.awaits self.old.setting (batches + 1)
+            (done ++ waiting) (answers ++ map reply_as result.0.items) (questions_view asked.now) begun old x
+            self.new.store signer.new) }
+        ensures unmoved { older.entry ≡ None → result.1 ≡ None
+            → (self.new ≡ self.old) × (signer.new ≡ signer.old) × (result.0.items ≡ []) }
+    {
+        let alloc = self.alloc;
+        let Ok((room, texts)) = rooms_of(alloc, self.settings, asked.len()) else {
+            return (finish_older(&mut self.store, alloc, older, signer), None);
+        };
+        let (replies, begun) = begin_behind(&mut self.store, alloc, older, asked, room, signer);
+        send_texts(&begun.waits, texts, signer);
+        (replies, Some(begun))
+    }
+
+    /// Finishes stamps that were begun together: their signatures are received, all that were signed are sealed in one
+    /// commit, and each is answered, in their order. All that waited are rejected by rule 12 where that commit is
+    /// refused.
+    pub fn finish_each<G: Signer>(&mut self, older: PendingBatch<'p>, signer: &mut G) -> Vec<Reply>
+        ensures honest { B.honest self.new.store → B.honest self.old.store }
+        ensures setting { self.new.setting ≡ self.old.setting }
+        ensures ended { (batches : ℕ) (done : List Question) (answers : List Answer) (waiting : List Question) (old : B)
+            (x : G) → IsUnderway B.Standing G.signs G.fault_count G.sent G.awaits self.old.setting batches done answers
+            waiting older.entry old x self.old.store signer.old
+            → HasEnded B.Standing G.signs G.fault_count G.sent G.awaits self.old.setting batches (done ++ waiting)
+            (answers ++ map reply_as result.items) old x self.new.store signer.new }
+    {
+        finish_older(&mut self.store, self.alloc, Some(older), signer)
+    }
+
     /// Answers stamps together (RFC 3161 2.4.2): a reply for each, in their order, as if each was answered by `answer`,
     /// one after the other. All that no rule refuses are reserved in one commit, their texts are signed in their order,
     /// and all that were signed are sealed in a second one, after which they are answered. Each is judged by the
@@ -68,8 +86,8 @@ impl<'p, B: Book + Drop> Desk<'p, B> {
     ///
     /// Nothing goes out to the signer but texts of what was reserved, in order, each at most once, whatever fails.
     ///
-    /// Room for verdicts, signatures, tokens and replies is taken first: where it is refused, the answer is `Memory`,
-    /// and nothing is done.
+    /// Room for verdicts, tokens and replies is taken first: where it is refused, the answer is `Memory`, and nothing
+    /// is done.
     pub fn answer_each<G: Signer>(
         &mut self,
         asked: &[Asked<'_>],
@@ -80,12 +98,15 @@ impl<'p, B: Book + Drop> Desk<'p, B> {
         ensures unmoved { OnErr result ((self.new ≡ self.old) × (signer.new ≡ signer.old)) }
         ensures setting { self.new.setting ≡ self.old.setting }
         ensures together { IfOk result (λ replies. IsAnsweredTogether B.Standing G.signs G.fault_count
-            self.old.setting (questions_view asked.now) (map reply_as replies.items) self.old.store signer.old
+            self.old.setting 1 (questions_view asked.now) (map reply_as replies.items) self.old.store signer.old
             self.new.store signer.new) }
-        ensures sent { OnOk result (SendsReserved B.Standing G.sent self.old.setting (questions_view asked.now)
+        ensures sent { OnOk result (SendsReserved B.Standing G.sent self.old.setting 1 (questions_view asked.now)
             self.old.store signer.old self.new.store signer.new) }
     {
-        let settings = self.settings;
-        answer_together(&mut self.store, self.alloc, settings, asked, signer)
+        let (_, begun) = self.begin_each(None, asked, signer);
+        match begun {
+            Some(batch) => Ok(self.finish_each(batch, signer)),
+            None => Err(Fault::Memory),
+        }
     }
 }

@@ -1,23 +1,28 @@
 //! Stamps that are answered together, up to the one commit of their reservations.
-ghost use Rattle.std.specs.Prelude.{◌≡◌, ◌≤◌, ◌<◌, ◌+◌, [], map, length, IfOk, IfErr, OnErr, vec_capacity, vec_len};
-ghost use Rattle.book.specs.{Entries.entries_view, Fault.IsOfStorage, History.Reserved};
+ghost use Rattle.std.specs.Prelude.{◌≡◌, ℕ, ◌≤◌, ◌<◌, ◌+◌, List, [], ◌++◌, map, length, IfErr, vec_capacity, vec_len};
+ghost use Rattle.book.specs.Fault.{IsOfStorage};
 ghost use Rattle.desk.specs.Outcome.{Call, Fine, Outcome, Refusal};
-ghost use Rattle.desk.specs.auxiliary.Verdicts.{verdict_of, Settled, JudgesEach, JudgesOne};
-ghost use Rattle.desk.specs.{Calls.settings_view, Commits.call_for, Commits.IsCommitted, auxiliary.Halves.AreBegun};
-ghost use Rattle.desk.specs.{auxiliary.Halves.HasRoom, Effects.rule_by as rule_for, Together.question_view};
-ghost use Rattle.desk.specs.{Together.questions_view, auxiliary.Verdicts.IsKept, WaitingStamps.waiting_view};
+ghost use Rattle.desk.specs.auxiliary.Halves.{AreReserved, GoesOn, IsEmptyRoom, IsRoom};
+ghost use Rattle.desk.specs.auxiliary.Verdicts.{verdict_of, IsKept, JudgesEach, JudgesOne};
+ghost use Rattle.desk.specs.Verdicts.{Settled};
+ghost use Rattle.desk.specs.{Answers.reply_as, Batches.Question, Calls.settings_view, Command.Answer, Commits.call_for};
+ghost use Rattle.desk.specs.{auxiliary.Completions.seal_view, Effects.rule_by as rule_for, Flights.IsFlight};
+ghost use Rattle.desk.specs.Together.{question_view, questions_view};
 
 use crate::batch::Asked;
-use crate::commit::commit;
-use crate::fault::Fault;
-use crate::pending_batch::{PendingBatch, empty_batch};
+use crate::batch_commit::commit_both;
+use crate::completion::{Seal, replies_of, sign_older};
+use crate::pending_batch::{BatchRoom, PendingBatch};
 use crate::refusal::{StampRefusal, rule_by};
+use crate::reply::Reply;
 use crate::settings::Settings;
 use crate::stamp_start::judge_one;
-use crate::waiting_stamp::{WaitingStamp, reservation_of};
-use book::{Book, Entry, StoreFault};
+use crate::unsigned_token::UnsignedToken;
+use crate::waiting_stamp::WaitingStamp;
+use book::{Book, StoreFault, histories_show_the_same};
+use cms::Signer;
 use std::alloc::Global;
-use tsp::Rule;
+use tsp::{Rule, requests_have_one_reading};
 
 /// Puts a stamp that was judged behind those before it.
 fn keep<'p, 'a>(
@@ -68,40 +73,6 @@ fn judge_each<'p, 'a, B: Book + Drop>(
     }
 }
 
-/// The reservations of what waits, as entries. Refused where memory wants.
-fn entries_of<'w>(
-    alloc: Global,
-    waits: &'w [WaitingStamp<'_, '_>],
-) -> Result<Vec<Entry<'w>>, StoreFault>
-    ensures entries { IfOk result (λ entries. entries_view entries.items ≡ map Reserved (map waiting_view waits.now)) }
-    ensures refused { IfErr result (λ fault. fault ≡ StoreFault.Memory) }
-{
-    let Ok(mut entries) = Vec::with_capacity(alloc, waits.len()) else {
-        return Err(StoreFault::Memory);
-    };
-    for waiting in waits {
-        entries.push_reserved(Entry::Reserved(reservation_of(waiting)));
-    }
-    Ok(entries)
-}
-
-/// Reserves all that waits in one commit.
-fn reserve_each<B: Book + Drop>(
-    store: &mut B,
-    alloc: Global,
-    waits: &[WaitingStamp<'_, '_>],
-) -> Result<(), StoreFault>
-    ensures commits { IsCommitted B.Standing (map Reserved (map waiting_view waits.now)) store.old store.new
-        (call_for result) }
-    ensures refusals { IfErr result IsOfStorage }
-{
-    if waits.is_empty() {
-        return Ok(());
-    }
-    let entries = entries_of(alloc, waits)?;
-    commit(store, &entries)
-}
-
 /// The rule by which a stamp is rejected once its reservation was refused: one that it fails, or rule 12.
 fn settle_one<B: Book + Drop>(
     store: &mut B,
@@ -139,41 +110,95 @@ fn settle_each<B: Book + Drop>(
     }
 }
 
-/// Begins stamps together: each is judged by the history with the reservations of those before it, and all that no rule
-/// refuses are reserved in one commit, their texts written before it. Where that commit is refused, none waits. Room
-/// for all that is written until they are answered is taken first: where it is refused, nothing is done.
-pub(crate) fn begin_each<'p, 'a, B: Book + Drop>(
+/// Keeps the tokens of stamps that are reserved. The caller has taken the room.
+fn keep_tokens(stamps: Vec<WaitingStamp<'_, '_>>, waits: &mut Vec<UnsignedToken>)
+    requires room { IsRoom (length stamps.items) waits.old }
+    ensures { waits.new.items ≡ map (λ waiting. waiting.unsigned) stamps.entry.items }
+{
+    for waiting in stamps {
+        waits.push_reserved(waiting.unsigned);
+    }
+}
+
+/// Reserves stamps that were judged in the commit that seals tokens of those before them. Where it is refused, they are
+/// judged anew, and none waits. How it was answered.
+fn reserve_each<'p, 'a, B: Book + Drop>(
     store: &mut B,
     alloc: Global,
     settings: Settings<'p>,
     asked: &[Asked<'a>],
-) -> Result<PendingBatch<'p, 'a>, Fault>
-    ensures honest { B.honest store.new → B.honest store.old }
-    ensures memory { IfErr result (λ fault. fault ≡ Fault.Memory) }
-    ensures unmoved { OnErr result (store.new ≡ store.old) }
-    ensures begins { IfOk result (λ pending. AreBegun B.Standing (settings_view settings.entry)
-        (questions_view asked.now) pending.verdicts.items pending.waits.items store.old store.new) }
-    ensures keeps { IfOk result (λ pending. pending.settings ≡ settings.entry) }
-    ensures room { IfOk result HasRoom }
-    ensures few { IfOk result (λ pending. length pending.waits.items ≤ length asked.now) }
+    seals: &[Seal],
+    verdicts: &mut Vec<Option<Rule>>,
+    stamps: &mut Vec<WaitingStamp<'p, 'a>>,
+) -> Result<(), StoreFault>
+    requires verdicts_room { length asked.now ≤ vec_capacity verdicts.old }
+    requires many { vec_len verdicts.old ≡ length asked.now }
+    requires few { vec_len stamps.old ≤ length asked.now }
+    ensures reserves { AreReserved B.Standing (settings_view settings.entry) (questions_view asked.now)
+        (map seal_view seals.now) verdicts.old.items stamps.old.items verdicts.new.items stamps.new.items
+        (call_for result) store.old store.new }
+    ensures many { vec_len verdicts.new ≡ length asked.now }
+    ensures few { vec_len stamps.new ≤ length asked.now }
+    ensures refusals { IfErr result IsOfStorage }
 {
-    let PendingBatch {
-        settings: _,
+    let committed = commit_both(store, alloc, seals, stamps);
+    if committed.is_err() {
+        settle_each(store, alloc, settings, asked, verdicts);
+        stamps.clear();
+    }
+    committed
+}
+
+/// Begins stamps together, behind an older batch, if there is one, whose replies are answered: each is judged by the
+/// history with the reservations of those before it, and all that no rule refuses are reserved in the commit that seals
+/// the older ones. Where that commit is refused, none waits.
+pub(crate) fn begin_behind<'p, 'a, B: Book + Drop, G: Signer>(
+    store: &mut B,
+    alloc: Global,
+    older: Option<PendingBatch<'p>>,
+    asked: &[Asked<'a>],
+    room: BatchRoom<'p, 'a>,
+    signer: &mut G,
+) -> (Vec<Reply>, PendingBatch<'p>)
+    requires room { IsEmptyRoom (length asked.now) room }
+    ensures honest { B.honest store.new → B.honest store.old }
+    ensures few { length result.1.pendings ≤ length asked.now }
+    ensures goes_on { (batches : ℕ) (done : List Question) (answers : List Answer) (waiting : List Question) (old : B)
+        (x : G) → IsFlight B.Standing G.signs G.fault_count G.sent G.awaits (settings_view room.entry.settings) batches
+        done answers waiting older.entry old x store.old signer.old
+        → GoesOn B.Standing G.signs G.fault_count G.sent (settings_view room.entry.settings) (batches + 1)
+        (done ++ waiting) (answers ++ map reply_as result.0.items) (questions_view asked.now) result.1 old x store.new
+        signer.new }
+{
+    requests_have_one_reading();
+    histories_show_the_same();
+    let BatchRoom {
+        settings,
+        mut stamps,
         mut verdicts,
         mut waits,
         written,
         replies,
-    } = empty_batch(alloc, settings, asked.len())?;
-    judge_each(store, alloc, settings, asked, &mut verdicts, &mut waits);
-    if reserve_each(store, alloc, &waits).is_err() {
-        settle_each(store, alloc, settings, asked, &mut verdicts);
-        waits.clear();
-    }
-    Ok(PendingBatch {
+    } = room;
+    judge_each(store, alloc, settings, asked, &mut verdicts, &mut stamps);
+    let signed = sign_older(alloc, older, signer);
+    let committed = reserve_each(
+        store,
+        alloc,
+        settings,
+        asked,
+        &signed.written.seals,
+        &mut verdicts,
+        &mut stamps,
+    );
+    keep_tokens(stamps, &mut waits);
+    store.tell_the_same();
+    let begun = PendingBatch {
         settings,
         verdicts,
         waits,
         written,
         replies,
-    })
+    };
+    (replies_of(signed, committed), begun)
 }

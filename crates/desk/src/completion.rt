@@ -1,31 +1,33 @@
 //! Stamps of a batch from their signatures on: all that were signed are sealed in one commit, and each is answered.
-ghost use Rattle.std.specs.Prelude.{◌≡◌, ◌≤◌, ◌<◌, ◌+◌, [], length, map, IfOk, IfErr};
-ghost use Rattle.std.specs.{Prelude.option_map, Prelude.vec_len, Prelude.vec_capacity, List.AllByRecursion};
-ghost use Rattle.book.specs.{Entries.entries_view, Fault.IsOfStorage};
+ghost use Rattle.std.specs.Prelude.{◌≡◌, ℕ, ◌≤◌, ◌<◌, ◌+◌, List, [], ◌++◌, None, Some, option_map, map, length};
+ghost use Rattle.std.specs.Prelude.{IfErr, vec_capacity, vec_len};
 ghost use Rattle.cms.specs.Signer.{signed_by, IsSized};
-ghost use Rattle.desk.specs.Commits.{call_for, if_accepted, IsCommitted};
-ghost use Rattle.desk.specs.auxiliary.Completions.{seal_view, AreWritten, IsWrittenMore};
-ghost use Rattle.desk.specs.auxiliary.Verdicts.{merged, reply_for};
-ghost use Rattle.desk.specs.{Answers.reply_as, Batches.seal_entry, Calls.settings_view, auxiliary.Halves.AreFinished};
-ghost use Rattle.desk.specs.{auxiliary.Halves.HasRoom, WaitingStamps.pending_in, WaitingStamps.pendings_in};
+ghost use Rattle.book.specs.Fault.{IsOfStorage};
+ghost use Rattle.desk.specs.Commits.{call_for, if_accepted};
+ghost use Rattle.desk.specs.auxiliary.Completions.{seal_view, IsWrittenMore};
+ghost use Rattle.desk.specs.auxiliary.Halves.{AreSigned, IsRoom, rules_if};
+ghost use Rattle.desk.specs.Verdicts.{merged};
+ghost use Rattle.desk.specs.auxiliary.Verdicts.{reply_for};
+ghost use Rattle.desk.specs.Flights.{HasEnded, IsFlight};
+ghost use Rattle.desk.specs.{Answers.reply_as, Batches.Question, Calls.settings_view, Command.Answer, Command.Setting};
+ghost use Rattle.desk.specs.WaitingStamps.{pending_by};
 
-use crate::commit::commit;
+use crate::batch_commit::commit_both;
 use crate::pending_batch::PendingBatch;
 use crate::reply::Reply;
 use crate::settings::Settings;
 use crate::stamp_end::no_answer;
-use crate::unsigned_token::{Written, write};
-use crate::waiting_stamp::WaitingStamp;
-use book::{Book, Entry, StoreFault};
-use cms::SignerFault;
+use crate::unsigned_token::{UnsignedToken, Written, write};
+use book::{Book, StoreFault, histories_show_the_same};
+use cms::{Signer, SignerFault};
 use std::alloc::Global;
-use tsp::{Rejection, Rule};
+use tsp::{Rejection, Rule, requests_have_one_reading};
 
 /// A token that is to be sealed under its serial number.
 #[derive(Drop)]
 pub(crate) struct Seal {
-    serial: u64,
-    token: Vec<u8>,
+    pub(crate) serial: u64,
+    pub(crate) token: Vec<u8>,
 }
 
 /// What is written for the stamps of a batch: the tokens to be sealed, and a reply for each stamp.
@@ -35,18 +37,29 @@ pub(crate) struct WrittenBatch {
     pub(crate) replies: Vec<Reply>,
 }
 
-/// Writes the token of a stamp, where it was signed, and its reply.
+/// A batch whose tokens are written, and to be sealed.
+#[derive(Drop)]
+pub(crate) struct SignedBatch {
+    /// For each stamp the rule by which it is rejected, or none, where it waited.
+    pub(crate) verdicts: Vec<Option<Rule>>,
+    pub(crate) written: WrittenBatch,
+    /// Room for the replies to all.
+    pub(crate) replies: Vec<Reply>,
+}
+
+/// Writes the token of a stamp, where it was signed, and its reply. The caller has taken the room for both.
 fn put(
     alloc: Global,
     settings: Settings<'_>,
-    waiting: &WaitingStamp<'_, '_>,
+    unsigned: &UnsignedToken,
     answer: &Result<Vec<u8>, SignerFault>,
     written: &mut WrittenBatch,
 )
     requires sized { IsSized answer.now }
     requires room_for_seal { vec_len written.old.seals < vec_capacity written.old.seals }
     requires room_for_reply { vec_len written.old.replies < vec_capacity written.old.replies }
-    ensures written { IsWrittenMore (pending_in (settings_view settings.entry) waiting.now) (signed_by answer.now)
+    ensures written { IsWrittenMore (pending_by settings.entry.identity.now settings.entry.algorithm.now unsigned.now)
+        (signed_by answer.now)
         (map seal_view written.old.seals.items) (map reply_as written.old.replies.items)
         (map seal_view written.new.seals.items) (map reply_as written.new.replies.items) }
     ensures seals { vec_len written.new.seals ≤ vec_len written.old.seals + 1 }
@@ -54,7 +67,6 @@ fn put(
     ensures room_for_seals { vec_capacity written.new.seals ≡ vec_capacity written.old.seals }
     ensures room_for_replies { vec_capacity written.new.replies ≡ vec_capacity written.old.replies }
 {
-    let unsigned = &waiting.unsigned;
     let Ok(signature) = answer else {
         written.replies.push_reserved(no_answer());
         return;
@@ -82,59 +94,54 @@ fn put(
     }
 }
 
-/// Writes the tokens of all stamps that were signed, and a reply for each stamp. The caller has taken the room for both
-/// lists.
-fn write_each(
+/// Receives the signatures of those that wait, and writes their tokens and replies.
+fn sign_batch<G: Signer>(alloc: Global, pending: PendingBatch<'_>, signer: &mut G) -> SignedBatch
+    ensures signs { AreSigned G.signs G.fault_count G.sent G.awaits (Some pending.entry)
+        (map seal_view result.written.seals.items) (map reply_as result.written.replies.items) signer.old signer.new }
+    ensures verdicts { result.verdicts.items ≡ pending.entry.rules }
+    ensures room { IsRoom (length result.verdicts.items) result.replies }
+{
+    let PendingBatch {
+        settings,
+        verdicts,
+        waits,
+        mut written,
+        replies,
+    } = pending;
+    for unsigned in &waits {
+        let answer = signer.receive(&unsigned.text);
+        put(alloc, settings, unsigned, &answer, &mut written);
+    }
+    SignedBatch {
+        verdicts,
+        written,
+        replies,
+    }
+}
+
+/// The same of the older batch, if there is one, and else one of no stamp. Takes no memory for the latter.
+pub(crate) fn sign_older<G: Signer>(
     alloc: Global,
-    settings: Settings<'_>,
-    waits: &[WaitingStamp<'_, '_>],
-    answers: &[Result<Vec<u8>, SignerFault>],
-    written: &mut WrittenBatch,
-)
-    requires as_many { length answers.now ≡ length waits.now }
-    requires sized { AllByRecursion IsSized answers.now }
-    requires no_seal { written.old.seals.items ≡ [] }
-    requires no_reply { written.old.replies.items ≡ [] }
-    requires room_for_seals { length waits.now ≤ vec_capacity written.old.seals }
-    requires room_for_replies { length waits.now ≤ vec_capacity written.old.replies }
-    ensures written { AreWritten (pendings_in (settings_view settings.entry) waits.now)
-        (map signed_by answers.now) (map seal_view written.new.seals.items) (map reply_as written.new.replies.items) }
-    ensures few_seals { vec_len written.new.seals ≤ length waits.now }
+    older: Option<PendingBatch<'_>>,
+    signer: &mut G,
+) -> SignedBatch
+    ensures signs { AreSigned G.signs G.fault_count G.sent G.awaits older.entry
+        (map seal_view result.written.seals.items) (map reply_as result.written.replies.items) signer.old signer.new }
+    ensures verdicts { result.verdicts.items ≡ rules_if older.entry }
+    ensures room { IsRoom (length result.verdicts.items) result.replies }
+    ensures unmoved { older.entry ≡ None → (signer.new ≡ signer.old) × (result.written.seals.items ≡ []) }
 {
-    for (index, waiting) in waits.iter().enumerate() {
-        put(alloc, settings, waiting, &answers[index], written);
+    match older {
+        Some(pending) => sign_batch(alloc, pending, signer),
+        None => SignedBatch {
+            verdicts: Vec::new(alloc),
+            written: WrittenBatch {
+                seals: Vec::new(alloc),
+                replies: Vec::new(alloc),
+            },
+            replies: Vec::new(alloc),
+        },
     }
-}
-
-/// The entries of these seals. Refused where memory wants.
-fn entries_of<'w>(alloc: Global, seals: &'w [Seal]) -> Result<Vec<Entry<'w>>, StoreFault>
-    ensures entries { IfOk result (λ entries. entries_view entries.items
-        ≡ map seal_entry (map seal_view seals.now)) }
-    ensures refused { IfErr result (λ fault. fault ≡ StoreFault.Memory) }
-{
-    let Ok(mut entries) = Vec::with_capacity(alloc, seals.len()) else {
-        return Err(StoreFault::Memory);
-    };
-    for seal in seals {
-        entries.push_reserved(Entry::Sealed {
-            serial: seal.serial,
-            token: &seal.token,
-        });
-    }
-    Ok(entries)
-}
-
-/// Seals all tokens in one commit.
-fn seal_each<B: Book + Drop>(store: &mut B, alloc: Global, seals: &[Seal]) -> Result<(), StoreFault>
-    ensures commits { IsCommitted B.Standing (map seal_entry (map seal_view seals.now)) store.old store.new
-        (call_for result) }
-    ensures refusals { IfErr result IsOfStorage }
-{
-    if seals.is_empty() {
-        return Ok(());
-    }
-    let entries = entries_of(alloc, seals)?;
-    commit(store, &entries)
 }
 
 /// The reply to a stamp: the rejection by the rule that it fails, or what came of it, where it waited.
@@ -180,31 +187,43 @@ fn told_by(sealed: Result<(), StoreFault>, written: WrittenBatch) -> Vec<Reply>
     told
 }
 
-/// Finishes stamps that were begun together, by an answer of the signer for each that waits: tokens over the signatures
-/// are sealed in one commit, and a reply for each stamp is answered, in their order. All that waited are rejected by
-/// rule 12 where that commit is refused.
-pub(crate) fn finish_each<B: Book + Drop>(
-    store: &mut B,
-    alloc: Global,
-    pending: PendingBatch<'_, '_>,
-    answers: &[Result<Vec<u8>, SignerFault>],
-) -> Vec<Reply>
-    requires as_many { length answers.now ≡ length pending.waits.items }
-    requires sized { AllByRecursion IsSized answers.now }
-    requires room { HasRoom pending }
-    ensures honest { B.honest store.new → B.honest store.old }
-    ensures finishes { AreFinished B.Standing (settings_view pending.entry.settings) pending.entry.verdicts.items
-        pending.entry.waits.items (map signed_by answers.now) (map reply_as result.items) store.old store.new }
+/// A reply for each stamp of a batch, by what came of the commit of its seals.
+pub(crate) fn replies_of(signed: SignedBatch, sealed: Result<(), StoreFault>) -> Vec<Reply>
+    requires room { IsRoom (length signed.verdicts.items) signed.replies }
+    requires storage { IfErr sealed IsOfStorage }
+    ensures { map reply_as result.items ≡ merged signed.verdicts.items
+        (if_accepted (call_for sealed) (map reply_as signed.written.replies.items)) }
 {
-    let PendingBatch {
-        settings,
+    let SignedBatch {
         verdicts,
-        waits,
-        mut written,
+        written,
         mut replies,
-    } = pending;
-    write_each(alloc, settings, &waits, answers, &mut written);
-    let sealed = seal_each(store, alloc, &written.seals);
+    } = signed;
     merge(&verdicts, told_by(sealed, written), &mut replies);
     replies
+}
+
+/// Finishes the older batch, if there is one: tokens over the signatures are sealed in one commit, and a reply for each
+/// stamp is answered, in their order.
+pub(crate) fn finish_older<B: Book + Drop, G: Signer>(
+    store: &mut B,
+    alloc: Global,
+    older: Option<PendingBatch<'_>>,
+    signer: &mut G,
+) -> Vec<Reply>
+    ensures honest { B.honest store.new → B.honest store.old }
+    ensures ended { (s : Setting) (batches : ℕ) (done : List Question) (answers : List Answer)
+        (waiting : List Question) (old : B) (x : G) → IsFlight B.Standing G.signs G.fault_count G.sent G.awaits s batches
+        done answers waiting older.entry old x store.old signer.old
+        → HasEnded B.Standing G.signs G.fault_count G.sent G.awaits s batches (done ++ waiting)
+        (answers ++ map reply_as result.items) old x store.new signer.new }
+    ensures unmoved { older.entry ≡ None
+        → (store.new ≡ store.old) × (signer.new ≡ signer.old) × (result.items ≡ []) }
+{
+    requests_have_one_reading();
+    histories_show_the_same();
+    let signed = sign_older(alloc, older, signer);
+    let sealed = commit_both(store, alloc, &signed.written.seals, &[]);
+    store.tell_the_same();
+    replies_of(signed, sealed)
 }

@@ -4,6 +4,7 @@
 
 mod additions;
 mod batch;
+mod batch_commit;
 mod batch_start;
 mod clock_facts;
 mod closed;
@@ -51,6 +52,7 @@ pub use laws::{
     successions_bring_their_identity, texts_are_reserved,
 };
 pub use pending::Pending;
+pub use pending_batch::PendingBatch;
 pub use reply::{Begun, Deposited, Reply};
 pub use rights::Change;
 pub use settings::{Settings, has_subject};

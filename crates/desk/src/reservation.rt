@@ -5,7 +5,7 @@ ghost use Rattle.der.specs.DataValueView.{value_view};
 ghost use Rattle.tsp.specs.{Request.Spells, Tst.IsTsaName, View.request_view};
 ghost use Rattle.desk.specs.auxiliary.Beginnings.{WaitsFor, IsUnwritten, IsReserved};
 ghost use Rattle.desk.specs.{Calls.plan_of, Calls.settings_view, Calls.why_of, auxiliary.NewDeposit.FailsLate};
-ghost use Rattle.desk.specs.{Succession.tsa_of, auxiliary.Verdicts.HasItsText, auxiliary.Verdicts.verdict_of};
+ghost use Rattle.desk.specs.{Succession.tsa_of, Verdicts.HasItsText, auxiliary.Verdicts.verdict_of};
 
 use crate::commit::add;
 use crate::findings::Planned;

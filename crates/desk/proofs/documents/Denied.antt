@@ -7,7 +7,6 @@ use Rattle.book.specs.{declared.fault.StoreFault.StoreFault, declared.standing.S
 use Rattle.book.specs.{Fault.count_after, Readers.Reader, Readers.Viewer, Rights.deposit_with_stamp, Rights.seen_by}
 use Rattle.book.specs.{Rows.DepositRow, Rows.StampRow, Sound.IsSound, Stands.Stands, Stands.OnlyLooks}
 use Rattle.book.specs.{Values.deposit_view, Values.stamped_view, declared.values.StampedDeposit.StampedDeposit}
-use Rattle.book.specs.declared.fault.StoreFault.TheVariants as store
 use Rattle.desk.specs.Command.{Setting, Command, Answer, Shown, Refused}
 use Rattle.desk.specs.Effects.{Effect, fault_of, only, unless, no_sight, show_effect, token_effect, reply_or_nothing}
 use Rattle.desk.specs.auxiliary.Obstacles.{fault_with, hindered, token_in, IsDenied, IsOfSight, IsOfRight, IsUnseen}

@@ -8,7 +8,6 @@ use Rattle.book.specs.{declared.standing.Standing.Ghosts, History.History, Histo
 use Rattle.book.specs.{Stands.Stands, Stands.OnlyLooks, declared.fault.StoreFault.StoreFault}
 use Rattle.policy.specs.Record.{AccountValue}
 use Rattle.cms.specs.{Signer.count_after, declared.signer.SignerFault.SignerFault}
-use Rattle.book.specs.declared.fault.StoreFault.TheVariants as store
 use Rattle.desk.specs.Command.{Setting, Command, Stamp, Begin, Finish, Abandon, Deposit, Show, Token, ListAll, Grant}
 use Rattle.desk.specs.Command.{Revoke, Calibrate, Hold, Succeed, Answer, Stamped, Rejected, Begun, Kept, Shown, Listed}
 use Rattle.desk.specs.MachineStep.{HasEffect, KeepsWithinSize, KeepsOnceSearched, KeepsByReference}

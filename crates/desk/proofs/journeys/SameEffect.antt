@@ -121,7 +121,7 @@ finds_same file account reading octets o b c (Allowed plan) e h =
     (allowed_same file account reading octets b c plan e h.0, h.1, h.2)
 
 -- what the effect takes of the history is its greatest serial number
-number_same : (o : Outcome) (b c : History) → greatest_serial b ≡ greatest_serial c → no_number o b ≡ no_number o c
+pub number_same : (o : Outcome) (b c : History) → greatest_serial b ≡ greatest_serial c → no_number o b ≡ no_number o c
 number_same o b c e = ap (λ n. first_cause ((if nat_le greatest_number n then Some OfStore else None)
     ∷ cause_of o.growing ∷ cause_of o.adding ∷ [])) e
 

@@ -1,29 +1,26 @@
 -- Stamps that were judged, reserved and completed together are a batch of the machine.
-use Rattle.std.proofs.Common.{◌≡◌, ℕ, ◌<◌, ◌≤◌, List, [], ◌∷◌, ◌++◌, map, Option, Result, Ok, Err}
-use Rattle.std.proofs.Common.{refl, sym, ap, ◌∙◌, subst, arith}
+use Rattle.std.proofs.Common.{◌≡◌, ℕ, List, [], ◌∷◌, ◌++◌, map, Option, Result, Ok, Err}
+use Rattle.std.proofs.Common.{refl, sym, ap, ◌∙◌, subst}
 use Rattle.std.specs.List.{AllByRecursion}
 use Rattle.tsp.specs.{declared.rule.Rule.Rule, declared.rule.Rule.TheVariants.System}
 use Rattle.cms.specs.Signer.{count_after, count_after_each, SignsEach}
 use Rattle.cms.specs.declared.signer.SignerFault.{SignerFault}
 use Rattle.cms.specs.declared.signer.SignerFault.TheVariants as signer
 use Rattle.book.specs.History.{Reserved, History, ReservationValue, reservations}
-use Rattle.book.specs.{History.greatest_serial, Sound.FitsReserved, Sound.IsSound}
 use Rattle.desk.specs.Batches.{Question, stamp_for, seals, with_reserved, HaveEffects}
 use Rattle.desk.specs.Batches.{all_reserved, all_sealed, MoveInTurn}
 use Rattle.desk.specs.Command.{Setting, PendingValue, Answer, Begin, Rejected}
-use Rattle.desk.specs.auxiliary.Completions.{Completion, finished, completed, seals_of, texts_of, AreWaiting}
+use Rattle.desk.specs.auxiliary.Completions.{Completion, finished, completed, seals_of}
 use Rattle.desk.specs.Effects.{Effect, only, name_of, in_seal, for_reply, rule_by}
 use Rattle.desk.specs.Outcome.{Call, Fine, Outcome, Cause, ByRule, ByCause, all_fine}
-use Rattle.desk.specs.auxiliary.Verdicts.{Verdict, Settled, Waits, JudgedStamp, rule_of, rules_of, met_by}
-use Rattle.desk.specs.auxiliary.Verdicts.{waiting_before}
-use Rattle.desk.specs.auxiliary.Verdicts.{waits_of, reserved_for, IsJudgedAs, AreJudged, IsJudgedRightly, merged}
-use Rattle.desk.specs.WaitingStamps.{waiting_view, pending_in, pendings_in, with_waiting}
+use Rattle.desk.specs.Verdicts.{Verdict, Settled, Waits, JudgedStamp, rule_of, rules_of, met_by}
+use Rattle.desk.specs.Verdicts.{waiting_before}
+use Rattle.desk.specs.Verdicts.{waits_of, reserved_for, IsJudgedAs, AreJudged, IsJudgedRightly, merged}
+use Rattle.desk.specs.WaitingStamps.{waiting_view, pending_in, pendings_in, texts_of}
 use Rattle.desk.specs.auxiliary.Wholes.{joined, ending, added, stamped}
 use Rattle.desk.specs.{Findings.Fails, Findings.Allowed, Fit.IsFit, Fit.IsUncounted, MachineStep.HasEffect}
-use Rattle.desk.specs.{MachineStep.IsWaiting, Together.AreFit, declared.waiting_stamp.WaitingStamp.WaitingStamp}
-use Rattle.desk.proofs.stamps.BatchJudgement.{waiting_fits, with_before}
+use Rattle.desk.specs.{Together.AreFit, declared.waiting_stamp.WaitingStamp.WaitingStamp}
 use Rattle.desk.proofs.stamps.Stamps.{awaited, stamp_calls, stamp_fits}
-use Rattle.desk.proofs.journeys.Views.{fits_seal, reservation_stays}
 use Rattle.desk.proofs.{stamps.Beginnings.unanswered_found, stamps.Completions.first_of, stamps.Completions.void_one}
 
 abbrev pub questions_of : List JudgedStamp → List Question
@@ -280,69 +277,3 @@ are_fit s sealing (j ∷ js) zs rightly grow = (
   fits_one sealing j.question j.verdict zs rightly.0.fits grow,
   are_fit s sealing js (behind j.verdict zs) rightly.1 (grow_behind j.verdict zs grow),
 )
-
--- what waits stays so while others are reserved
-stays_waiting : (p : PendingValue) (r : ReservationValue) (b : History) → FitsReserved r b → IsWaiting p b
-    → IsWaiting p (Reserved r ∷ b)
-stays_waiting p r b fits h = record {
-  reservation = h.reservation;
-  reserved = reservation_stays (Reserved r) b fits p.serial h.reservation h.reserved;
-  tst = h.tst;
-  open_yet = h.open_yet;
-}
-
-stays_one : (s : Setting) (a : Question) (v : Verdict) (b : History) (p : PendingValue) → IsJudgedAs s a v b
-    → IsWaiting p b → IsWaiting p (reserved_for v b)
-stays_one s a (Settled why o) b p h waits = waits
-stays_one s a (Waits w) b p h waits = stays_waiting p (waiting_view w) b (waiting_fits s a b w h) waits
-
-stays_among : (s : Setting) (js : List JudgedStamp) (b : History) (p : PendingValue) → AreJudged s js b → IsWaiting p b
-    → IsWaiting p (with_waiting (waits_of js) b)
-stays_among s [] b p h waits = waits
-stays_among s (j ∷ js) b p h waits =
-    subst (IsWaiting p) (sym (with_before j.verdict (waits_of js) b))
-    (stays_among s js (reserved_for j.verdict b) p h.1 (stays_one s j.question j.verdict b p h.0 waits))
-
--- serial numbers rise
-rise_step : (s : Setting) (a : Question) (v : Verdict) (ws : List WaitingStamp) (b : History) (n : ℕ) → IsJudgedAs s a v b
-    → n ≤ greatest_serial b
-    → (n ≤ greatest_serial (reserved_for v b) → AllByRecursion (λ q. n < q.serial) (pendings_in s ws))
-    → AllByRecursion (λ q. n < q.serial) (pendings_in s (waiting_before v ws))
-rise_step s a (Settled why o) ws b n h most rest = rest most
-rise_step s a (Waits w) ws b n h most rest =
-    let above = (waiting_fits s a b w h).rises in (omega arith, rest (omega arith))
-
-rise_among : (s : Setting) (js : List JudgedStamp) (b : History) (n : ℕ) → AreJudged s js b → n ≤ greatest_serial b
-    → AllByRecursion (λ q. n < q.serial) (pendings_in s (waits_of js))
-rise_among s [] b n h most = tt
-rise_among s (j ∷ js) b n h most =
-    rise_step s j.question j.verdict (waits_of js) b n h.0 most
-    (λ more. rise_among s js (reserved_for j.verdict b) n h.1 more)
-
-wait_step : (s : Setting) (a : Question) (v : Verdict) (js : List JudgedStamp) (b : History) → IsSound b
-    → IsJudgedAs s a v b → AreJudged s js (reserved_for v b)
-    → (IsSound (reserved_for v b)
-    → AreWaiting (pendings_in s (waits_of js)) (with_waiting (waits_of js) (reserved_for v b)))
-    → AreWaiting (pendings_in s (waiting_before v (waits_of js))) (with_waiting (waiting_before v (waits_of js)) b)
-wait_step s a (Settled why o) js b sound h others rest = rest sound
-wait_step s a (Waits w) js b sound h others rest =
-    let fits = waiting_fits s a b w h in
-    let r = waiting_view w in
-    let seal = fits_seal r b sound fits.rises in
-    let most : w.unsigned.serial ≤ greatest_serial (Reserved r ∷ b) = omega arith in (
-      stays_among s js (Reserved r ∷ b) (pending_in s w) others (record {
-        reservation = r;
-        reserved = seal.reserved;
-        tst = refl;
-        open_yet = seal.open_yet;
-      }),
-      rise_among s js (Reserved r ∷ b) w.unsigned.serial others most,
-      rest (fits, sound),
-    )
-
-pub all_wait : (s : Setting) (js : List JudgedStamp) (b : History) → IsSound b → AreJudged s js b
-    → AreWaiting (pendings_in s (waits_of js)) (with_waiting (waits_of js) b)
-all_wait s [] b sound h = tt
-all_wait s (j ∷ js) b sound h =
-    wait_step s j.question j.verdict js b sound h.0 h.1
-    (λ more. all_wait s js (reserved_for j.verdict b) more h.1)

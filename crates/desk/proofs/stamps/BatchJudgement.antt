@@ -8,14 +8,17 @@ use Rattle.der.specs.ObjectIdentifier.{oid_content}
 use Rattle.tsp.specs.{Rules.IsFirstFailing, declared.rule.Rule.Rule}
 use Rattle.book.specs.{declared.standing.Standing.Ghosts, History.Reserved, History.History, History.greatest_serial}
 use Rattle.book.specs.{Sound.FitsReserved, Sound.IsSound, Sound.greatest_number, Stands.Stands, Stands.OnlyLooks}
-use Rattle.desk.specs.auxiliary.Beginnings.{IsSettled, IsAwaited, WaitsFor, IsUnwritten, IsOfJudging}
+use Rattle.desk.specs.Verdicts.{IsSettled, IsAwaited}
+use Rattle.desk.specs.auxiliary.Beginnings.{WaitsFor, IsUnwritten, IsOfJudging}
 use Rattle.desk.specs.Calls.{IsSomebodys, finding_by, refused, why_of}
 use Rattle.desk.specs.Findings.{StampPlan, HoldsUnasked, Unanswered, Allowed, Finds}
 use Rattle.desk.specs.Outcome.{Call, Fine, OutOfMemory, Failed, Outcome, Cause, OfMemory, OfStore, cause_of}
 use Rattle.desk.specs.Outcome.{Refusal, ByRule, ByCause, first_cause, all_fine, faults_after}
-use Rattle.desk.specs.auxiliary.Verdicts.{Verdict, Settled, Waits, JudgedStamp, rule_of}
-use Rattle.desk.specs.auxiliary.Verdicts.{looks_of, all_looks, waiting_before, waits_of, reserved_for, IsJudgedAs}
-use Rattle.desk.specs.auxiliary.Verdicts.{AreJudged, IsJudgedRightly, JudgesEach, JudgesOne, JudgesAs, IsKept}
+use Rattle.desk.specs.Verdicts.{Verdict, Settled, Waits, JudgedStamp, rule_of}
+use Rattle.desk.specs.auxiliary.Verdicts.{looks_of, all_looks}
+use Rattle.desk.specs.Verdicts.{waiting_before, waits_of, reserved_for, IsJudgedAs}
+use Rattle.desk.specs.Verdicts.{AreJudged, IsJudgedRightly}
+use Rattle.desk.specs.auxiliary.Verdicts.{JudgesEach, JudgesOne, JudgesAs, IsKept}
 use Rattle.desk.specs.WaitingStamps.{waiting_view, pending_in, with_waiting}
 use Rattle.desk.specs.{Batches.Question, Batches.faults_along, Command.Setting, Command.Begin, Effects.name_of}
 use Rattle.desk.specs.{Effects.no_number, Effects.rule_by, Fit.IsFit, Texts.tst_of, Texts.reservation_of}

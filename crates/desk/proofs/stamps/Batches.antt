@@ -17,12 +17,13 @@ use Rattle.desk.specs.Facts.{facts_of, is_held_at, now_in, count_in, gen_time_in
 use Rattle.desk.specs.Findings.{StampPlan, IsAllowed, IsAnsweredFor, IsUnjudged, Finding, Fails, Unanswered, Allowed}
 use Rattle.desk.specs.Effects.{Effect, no_number, no_seal, next_reservation, sealed_or_void, signed_or_void}
 use Rattle.desk.specs.Batches.{Question, stamp_for, stamps_for, SealValue, seals, seal_entry, with_reserved}
-use Rattle.desk.specs.Batches.{with_sealed, HaveEffects, all_reserved, all_sealed, batch_of, MoveInTurn}
+use Rattle.desk.specs.Batches.{with_sealed, HaveEffects, after_each, all_reserved, all_sealed, batch_of, MoveInTurn}
 use Rattle.desk.specs.Batches.{after_batch, once_reserved, IsRunTogether, IsLeftInBatch, IsCutTogether}
 use Rattle.desk.specs.{Outcome.Outcome, Outcome.Cause, Findings.Finds, Command.Setting, Command.PendingValue}
 use Rattle.desk.specs.{Command.Answer, Texts.pending_of, Texts.token_with, Effects.stamping_of, Effects.stamp_effect}
 use Rattle.desk.specs.{Effects.stamp_found, Effects.name_of, MachineStep.HasEffect, MachineStep.Moves, MachineRuns.Runs}
 use Rattle.desk.specs.{MachineRuns.Told, MachineRuns.after, Laws.Continues, auxiliary.Wholes.joined, Effects.for_reply}
+use Rattle.desk.specs.Together.{Leads}
 use Rattle.desk.proofs.journeys.SameEffect.{finds_same, found_same, held_same}
 use Rattle.desk.proofs.journeys.Sound.{gen_time_bound, number_left, not_full}
 use Rattle.desk.proofs.{journeys.Views.fits_seal, journeys.Views.reservation_stays, journeys.Branches.stamp_has}
@@ -151,7 +152,7 @@ counted_alike file (Some account) reading b d calibration reserved =
     ap (λ l. count_of_day account.name (day_of (gen_time_of file (now_in reading l))) b) calibration
     ∙ ap (λ rs. count_by (is_of_day account.name (day_of (gen_time_in file reading d))) rs) reserved
 
-facts_alike : (file : PolicyValue) (account : Option AccountValue) (reading : ℤ) (b d : History) → JudgesSame b d
+pub facts_alike : (file : PolicyValue) (account : Option AccountValue) (reading : ℤ) (b d : History) → JudgesSame b d
     → facts_of file account reading b ≡ facts_of file account reading d
 facts_alike file account reading b d same =
     let calibration : latest_calibration b ≡ latest_calibration d = rw same.calibrated refl in
@@ -228,14 +229,15 @@ batch_sound laws r n t rs vs b sound =
 
 -- where the stamps' effects have come
 pub record Reaches {S : Type 0} (signs : S → List ℕ → Result (List ℕ) SignerFault → S → Type 0) (s : Setting)
-    (asked : List Question) (os : List Outcome) (es : List Effect) (d : History) (x y : S) : Type 0 where
-  pub history : History
-  pub runs : Runs signs s (stamps_for asked) os d x (map (λ e. e.says) es) history y
-  pub sound : IsSound history
-  pub same : ShowsSame (with_sealed (all_sealed es) (with_reserved (all_reserved es) d)) history
+    (asked : List Question) (os : List Outcome) (es : List Effect) (b d : History) (x y : S) : Type 0 where
+  pub runs : Runs signs s (stamps_for asked) os d x (map (λ e. e.says) es) (after_each es d) y
+  pub sound : IsSound (after_each es d)
+  pub same : ShowsSame (with_sealed (all_sealed es) (with_reserved (all_reserved es) d)) (after_each es d)
   pub batched : IsSound (with_sealed (all_sealed es) (with_reserved (all_reserved es) d))
-  -- where nothing is reserved, nothing is added
-  pub still : all_reserved es ≡ [] → history ≡ d
+  -- those behind them are judged by it as by that with the reservations alone
+  pub judges : JudgesSame (with_reserved (all_reserved es) b) (after_each es d)
+  -- where nothing is sealed, it has the reservations alone
+  pub unsealed : all_sealed es ≡ [] → after_each es d ≡ with_reserved (all_reserved es) d
 
 -- what the rest of a batch shows and leaves sound, from the history with all that a stamp adds, it does from the
 -- history with its reservation
@@ -263,12 +265,17 @@ sound_behind laws s rs vs d e (stays_void r fits one asked) = subst (SoundBehind
 sound_behind laws s rs vs d e (is_sealed r token fits two asked) =
     subst (SoundBehind rs vs d) (sym two) (batch_sound laws r r.serial token rs vs d)
 
-judges_more : (r : ReservationValue) (b d : History) → JudgesSame b d → JudgesSame (Reserved r ∷ b) (Reserved r ∷ d)
+pub judges_more : (r : ReservationValue) (b d : History) → JudgesSame b d → JudgesSame (Reserved r ∷ b) (Reserved r ∷ d)
 judges_more r b d same = record {
   reserved = ap (λ rs. r ∷ rs) same.reserved;
   calibrated = same.calibrated;
   held = same.held;
 }
+
+pub reserves_alike : (rs : List ReservationValue) (b d : History) → JudgesSame b d
+    → JudgesSame (with_reserved rs b) (with_reserved rs d)
+reserves_alike [] b d same = same
+reserves_alike (r ∷ rs) b d same = reserves_alike rs (Reserved r ∷ b) (Reserved r ∷ d) (judges_more r b d same)
 
 judges_sealed : (r : ReservationValue) (token : List ℕ) (b d : History) → JudgesSame b d
     → JudgesSame (Reserved r ∷ b) (Sealed r.serial token ∷ Reserved r ∷ d)
@@ -278,17 +285,25 @@ judges_sealed r token b d same = record {
   held = same.held;
 }
 
--- a stamp that reserves nothing adds nothing
-none_of_both : {X : Type 0} (xs ys : List X) → xs ++ ys ≡ [] → (xs ≡ []) × (ys ≡ [])
+pub none_of_both : {X : Type 0} (xs ys : List X) → xs ++ ys ≡ [] → (xs ≡ []) × (ys ≡ [])
 none_of_both [] ys none = (refl, none)
 none_of_both (x ∷ xs) ys none = absurd (let e : x ∷ (xs ++ ys) ≡ [] = none in cc)
 
-adds_still : (s : Setting) (d : History) (e : Effect) → StampShape s d e → reservations e.adds ≡ [] → after e d ≡ d
-adds_still s d e (adds_nothing none unasked) nothing = ap (λ adds. adds ++ d) none
-adds_still s d e (stays_void r fits one asked) nothing =
-    absurd (let is : r ∷ [] ≡ [] = sym (ap reservations one) ∙ nothing in cc)
-adds_still s d e (is_sealed r token fits two asked) nothing =
-    absurd (let is : r ∷ [] ≡ [] = sym (ap reservations two) ∙ nothing in cc)
+-- a stamp that seals nothing adds its reservation alone
+adds_unsealed : (s : Setting) (d : History) (e : Effect) → StampShape s d e → seals e.adds ≡ []
+    → after e d ≡ with_reserved (reservations e.adds) d
+adds_unsealed s d e (adds_nothing none unasked) nothing =
+    subst (λ adds. adds ++ d ≡ with_reserved (reservations adds) d) (sym none) refl
+adds_unsealed s d e (stays_void r fits one asked) nothing =
+    subst (λ adds. adds ++ d ≡ with_reserved (reservations adds) d) (sym one) refl
+adds_unsealed s d e (is_sealed r token fits two asked) nothing =
+    let seal : SealValue = record { serial = r.serial; token = token } in
+    absurd (let is : seal ∷ [] ≡ [] = sym (ap seals two) ∙ nothing in cc)
+
+pub reserved_twice : (one other : List ReservationValue) (b : History)
+    → with_reserved other (with_reserved one b) ≡ with_reserved (one ++ other) b
+reserved_twice [] other b = refl
+reserved_twice (r ∷ one) other b = reserved_twice one other (Reserved r ∷ b)
 
 -- the history after a stamp is sound, and the stamps after it are judged by it as by that with its reservation alone
 pub sound_adds : (s : Setting) (d : History) (e : Effect) → IsSound d → StampShape s d e → IsSound (after e d)
@@ -309,14 +324,14 @@ judges_adds s b d e same (is_sealed r token fits two asked) =
 
 pub reaches : {S : Type 0} (signs : S → List ℕ → Result (List ℕ) SignerFault → S → Type 0) → ShowLaws → (s : Setting)
     (asked : List Question) (os : List Outcome) (es : List Effect) (b d : History) (x y : S) → JudgesSame b d
-    → IsSound d → HaveEffects s asked os b es → MoveInTurn signs es os x y → Reaches signs s asked os es d x y
+    → IsSound d → HaveEffects s asked os b es → MoveInTurn signs es os x y → Reaches signs s asked os es b d x y
 reaches signs laws s [] [] [] b d x y same sound have moves = record {
-  history = d;
   runs = (refl, moves);
   sound = sound;
   same = shows_itself d;
   batched = sound;
-  still = λ nothing. refl;
+  judges = same;
+  unsealed = λ nothing. refl;
 }
 reaches signs laws s (a ∷ asked) (o ∷ os) (e ∷ es) b d x y same sound have moves =
     let has = stamp_alike s a o b d e same have.0 in
@@ -324,19 +339,36 @@ reaches signs laws s (a ∷ asked) (o ∷ os) (e ∷ es) b d x y same sound have
     let rest = reaches signs laws s asked os es (with_reserved (reservations e.adds) b) (after e d) moves.0 y
     (judges_adds s b d e same shape) (sound_adds s d e sound shape) have.1 moves.1.1 in
     record {
-      history = rest.history;
       runs = (e, moves.0, (has, moves.1.0, refl, rest.runs));
       sound = rest.sound;
-      same = shows_behind laws s (all_reserved es) (all_sealed es) d rest.history e shape rest.same;
+      same = shows_behind laws s (all_reserved es) (all_sealed es) d (after_each (e ∷ es) d) e shape rest.same;
       batched = sound_behind laws s (all_reserved es) (all_sealed es) d e shape rest.batched;
-      still = λ nothing.
-          let none = none_of_both (reservations e.adds) (all_reserved es) nothing in
-          rest.still none.1 ∙ adds_still s d e shape none.0;
+      judges = subst (λ c. JudgesSame c (after_each (e ∷ es) d))
+          (reserved_twice (reservations e.adds) (all_reserved es) b) rest.judges;
+      unsealed = λ nothing.
+          let none = none_of_both (seals e.adds) (all_sealed es) nothing in
+          rest.unsealed none.1
+          ∙ (ap (with_reserved (all_reserved es)) (adds_unsealed s d e shape none.0)
+          ∙ reserved_twice (reservations e.adds) (all_reserved es) d);
     }
 reaches signs laws s [] [] (e ∷ es) b d x y same sound have moves = absurd have
 reaches signs laws s [] (o ∷ os) es b d x y same sound have moves = absurd have
 reaches signs laws s (a ∷ asked) [] es b d x y same sound have moves = absurd have
 reaches signs laws s (a ∷ asked) (o ∷ os) [] b d x y same sound have moves = absurd have
+
+-- they have the same effects by each history that judges the same
+pub have_alike : (s : Setting) (asked : List Question) (os : List Outcome) (es : List Effect) (b d : History)
+    → JudgesSame b d → HaveEffects s asked os b es → HaveEffects s asked os d es
+have_alike s [] [] [] b d same have = have
+have_alike s (a ∷ asked) (o ∷ os) (e ∷ es) b d same have = (
+  stamp_alike s a o b d e same have.0,
+  have_alike s asked os es (with_reserved (reservations e.adds) b) (with_reserved (reservations e.adds) d)
+      (reserves_alike (reservations e.adds) b d same) have.1,
+)
+have_alike s [] [] (e ∷ es) b d same have = absurd have
+have_alike s [] (o ∷ os) es b d same have = absurd have
+have_alike s (a ∷ asked) [] es b d same have = absurd have
+have_alike s (a ∷ asked) (o ∷ os) [] b d same have = absurd have
 
 pub judges_itself : (b : History) → JudgesSame b b
 judges_itself b = record { reserved = refl; calibrated = refl; held = refl }
@@ -348,17 +380,17 @@ pub batch_runs : {S : Type 0} (signs : S → List ℕ → Result (List ℕ) Sign
     → IsRunTogether signs s asked os b x (batch_of es).says (after_batch (batch_of es) b) y
 batch_runs signs laws s asked os es b x y sound have moves =
     let r = reaches signs laws s asked os es b b x y (judges_itself b) sound have moves in
-    record { history = r.history; runs = r.runs; sound = r.sound; same = r.same }
+    record { history = after_each es b; runs = r.runs; sound = r.sound; same = r.same }
 
 -- a signer of which nothing is known, for what doesn't depend on it
-abbrev free : Unit {0} → List ℕ → Result (List ℕ) SignerFault → Unit {0} → Type 0
+abbrev pub free : Unit {0} → List ℕ → Result (List ℕ) SignerFault → Unit {0} → Type 0
 free x text answer y = Unit {0}
 
 moves_freely : (asked : Option (List ℕ)) (answer : Result (List ℕ) SignerFault) → Moves free asked answer tt tt
 moves_freely None answer = refl
 moves_freely (Some text) answer = tt
 
-free_in_turn : (s : Setting) (asked : List Question) (os : List Outcome) (b : History) (es : List Effect)
+pub free_in_turn : (s : Setting) (asked : List Question) (os : List Outcome) (b : History) (es : List Effect)
     → HaveEffects s asked os b es → MoveInTurn free es os tt tt
 free_in_turn s [] [] b [] have = refl
 free_in_turn s (a ∷ asked) (o ∷ os) b (e ∷ es) have = (
@@ -479,11 +511,6 @@ one_reserved s b e (stays_void r fits one asked) =
 one_reserved s b e (is_sealed r token fits two asked) =
     subst (λ adds. map Reserved (reservations adds) ++ b ≡ with_reserved (reservations adds) b) (sym two) refl
 
-reserved_twice : (one other : List ReservationValue) (b : History)
-    → with_reserved other (with_reserved one b) ≡ with_reserved (one ++ other) b
-reserved_twice [] other b = refl
-reserved_twice (r ∷ one) other b = reserved_twice one other (Reserved r ∷ b)
-
 record IsUnsigned (s : Setting) (a : Question) (o : Outcome) (b : History) (e : Effect) : Type 0 where
   effect : Effect
   has : HasEffect s (stamp_for a) (unsigned o) b effect
@@ -594,6 +621,15 @@ pub record IsCutBy (s : Setting) (asked : List Question) (os : List Outcome) (b 
   pub sound : IsSound history
   pub same : ShowsSame left history
 
+-- as where a run ends
+pub cut_led : (s : Setting) (asked : List Question) (os : List Outcome) (b : History) (answers : List Answer)
+    (last left : History) (w : List Told) → (asked ≡ [] → ⊥) → Leads s asked os b answers last → IsSound last
+    → ShowsSame left last → IsCutBy s asked os b w left
+cut_led s [] os b answers last left w some leads sound same = absurd (some refl)
+cut_led s (a ∷ asked) os b answers last left w some leads sound same =
+    let c = cut_at_end free s a asked os b tt answers last tt w leads in
+    record { history = last; told = c.told; cut = c.cut; sound = sound; same = same }
+
 -- after its first commit, no stamp has its signature yet
 pub cut_once_reserved : ShowLaws → (s : Setting) (asked : List Question) (os : List Outcome) (es : List Effect)
     (b : History) (w : List Told) → IsSound b → (asked ≡ [] → ⊥) → HaveEffects s asked os b es
@@ -614,12 +650,9 @@ cut_once_reserved laws s (a ∷ asked) os es b w sound some have =
 pub cut_at_whole : ShowLaws → (s : Setting) (asked : List Question) (os : List Outcome) (es : List Effect)
     (b : History) (w : List Told) → IsSound b → (asked ≡ [] → ⊥) → HaveEffects s asked os b es
     → IsCutBy s asked os b w (after_batch (batch_of es) b)
-cut_at_whole laws s [] os es b w sound some have = absurd (some refl)
-cut_at_whole laws s (a ∷ asked) os es b w sound some have =
-    let run = batch_runs free laws s (a ∷ asked) os es b tt tt sound have
-    (free_in_turn s (a ∷ asked) os b es have) in
-    let c = cut_at_end free s a asked os b tt (batch_of es).says run.history tt w run.runs in
-    record { history = run.history; told = c.told; cut = c.cut; sound = run.sound; same = run.same }
+cut_at_whole laws s asked os es b w sound some have =
+    let run = batch_runs free laws s asked os es b tt tt sound have (free_in_turn s asked os b es have) in
+    cut_led s asked os b (batch_of es).says run.history (after_batch (batch_of es) b) w some run.runs run.sound run.same
 
 -- a stop in a batch leaves what a stop in a run leaves
 pub batch_stops : ShowLaws → (s : Setting) (asked : List Question) (os : List Outcome) (es : List Effect)

@@ -7,7 +7,8 @@ use Rattle.cms.specs.declared.signer.SignerFault.{SignerFault}
 use Rattle.book.specs.History.{Entry, Reserved, History, ReservationValue, greatest_serial}
 use Rattle.book.specs.declared.fault.StoreFault.{StoreFault}
 use Rattle.book.specs.{Entries.Appends, Fault.IsOfStorage, declared.standing.Standing.Ghosts, Sound.greatest_number}
-use Rattle.desk.specs.auxiliary.Beginnings.{unanswered_by, IsSettled, IsAwaited, IsOfBeginning, IsReserved, Settles}
+use Rattle.desk.specs.Verdicts.{unanswered_by, IsSettled, IsAwaited}
+use Rattle.desk.specs.auxiliary.Beginnings.{IsOfBeginning, IsReserved, Settles}
 use Rattle.desk.specs.auxiliary.Beginnings.{Reserves}
 use Rattle.desk.specs.CallContract.{SignerStep, no_signer, IsBlamedFor, IsBlamed, IsExcused, IsSpentIn, IsOpened}
 use Rattle.desk.specs.CallContract.{StepsBy, StepsWhere, IsDoubted, in_doubt}
@@ -17,7 +18,8 @@ use Rattle.desk.specs.Effects.{Effect, Purpose, refused_for, for_parts, only, fa
 use Rattle.desk.specs.Effects.{purpose_effect, purpose_found, stamping_of, name_of}
 use Rattle.desk.specs.Findings.{Finding, HoldsUnasked, Fails, Unanswered, Allowed, Finds}
 use Rattle.desk.specs.Outcome.{Call, Fine, OutOfMemory, Failed, Outcome, Cause, OfMemory, OfStore, first_cause}
-use Rattle.desk.specs.auxiliary.Verdicts.{Settled, Waits, JudgesOne, JudgesAs}
+use Rattle.desk.specs.Verdicts.{Settled, Waits}
+use Rattle.desk.specs.auxiliary.Verdicts.{JudgesOne, JudgesAs}
 use Rattle.desk.specs.{Answers.ended_as, Batches.Question, auxiliary.Beginnings.Begins, Effects.begin_found, Fit.IsFit}
 use Rattle.desk.specs.{MachineStep.HasEffect, MachineStep.IsMet, Outcome.Refusal, Outcome.ByRule, Outcome.ByCause}
 use Rattle.desk.specs.{Outcome.all_fine, Outcome.faults_after, Texts.pending_of, WaitingStamps.waiting_view}

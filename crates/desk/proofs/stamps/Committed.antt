@@ -1,7 +1,7 @@
 -- What a commit of entries does, of which there may be none.
 use Rattle.std.proofs.{Common.◌≡◌, Common.ℕ, Common.◌==◌, Common.List, Common.[], Common.◌∷◌, Common.map, Common.length}
 use Rattle.std.proofs.{Common.true, Common.false, Common.Result, Common.Ok, Common.Err, Common.refl, Common.sym}
-use Rattle.std.proofs.{Common.◌∙◌, Common.ap, Common.subst, Common.inl, Common.inr}
+use Rattle.std.proofs.{Common.◌∙◌, Common.ap, Common.subst, Common.inl}
 use Rattle.std.specs.{Prelude.IfErr, Result.is_err}
 use Rattle.book.specs.Fault.{IsOfStorage, count_after as count_faults}
 use Rattle.book.specs.{declared.fault.StoreFault.StoreFault, declared.standing.Standing.Ghosts, Entries.with_all}
@@ -51,13 +51,6 @@ pub accepted_none : {A : Type 0} (call : Call) (xs : List A) → xs ≡ [] → i
 accepted_none Fine xs none = none
 accepted_none OutOfMemory xs none = refl
 accepted_none Failed xs none = refl
-
--- a commit of nothing
-pub none_committed : {B : Type 0} (g : Ghosts B) (entries : List Entry) (old new : B) (call : Call) → entries ≡ []
-    → IsCommitted g entries old new call → (call ≡ Fine) × (new ≡ old)
-none_committed g entries old new call none (untried is fine same) = (fine, same)
-none_committed g entries old new call none (added some fine a) = absurd (some none)
-none_committed g entries old new call none (refused some fault is storage a) = absurd (some none)
 
 -- what a commit does
 pub commit_honest : {B : Type 0} (g : Ghosts B) (entries : List Entry) (old new : B) (call : Call)

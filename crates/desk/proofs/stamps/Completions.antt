@@ -1,77 +1,36 @@
 -- Stamps of a batch from their reservations on: what is written of each, and what the commit of all tokens does.
-use Rattle.std.proofs.Common.{◌≡◌, ℕ, ◌<◌, ◌+◌, ◌==◌, List, [], ◌∷◌, ◌++◌, map, length, Some, None, Result, Ok}
-use Rattle.std.proofs.Common.{Err, refl, sym, ◌∙◌, ap, arith, append_assoc, append-nil, false, if◌then◌else◌, take}
-use Rattle.std.proofs.Common.{slice_index_or, Vec, inl, inr}
-use Rattle.std.proofs.lemmas.List.{map-append, take_more}
-use Rattle.std.specs.{Hash.DefaultHasher.wrapping_add, List.AllByRecursion}
-use Rattle.book.specs.History.{Entry, Sealed, History, ReservationValue, token_of}
-use Rattle.book.specs.{Entries.FitInTurn, Sound.Fits}
+use Rattle.std.proofs.Common.{◌≡◌, ℕ, ◌<◌, ◌+◌, List, [], ◌∷◌, ◌++◌, map, length, Some, Result, Ok}
+use Rattle.std.proofs.Common.{Err, refl, sym, ◌∙◌, ap, arith, append_assoc, append-nil, take}
+use Rattle.std.proofs.Common.{slice_index_or, Vec, inl, inr, subst, drop, drop-cons, suc, ◌≤◌}
+use Rattle.std.proofs.lemmas.List.{map-append, take_more, take_all, drop_all}
+use Rattle.std.specs.{List.AllByRecursion}
+use Rattle.book.specs.History.{Entry, History, ReservationValue}
 use Rattle.tsp.specs.declared.rule.Rule.TheVariants.{System}
-use Rattle.cms.specs.Signer.{signed_by, count_after_each}
+use Rattle.cms.specs.Signer.{signed_by, count_after, count_after_each, SignsEach}
 use Rattle.cms.specs.{SignedData.attribute_text, declared.signer.SignerFault.SignerFault}
 use Rattle.cms.specs.declared.signer.SignerFault.TheVariants as signer
 use Rattle.desk.specs.Batches.{SealValue, seal_entry, with_sealed, seals}
-use Rattle.desk.specs.Command.{Setting, PendingValue, Answer, Rejected}
-use Rattle.desk.specs.auxiliary.Completions.{texts_of, Completion, finished, completed, seals_of, AreWaiting}
+use Rattle.desk.specs.Command.{Setting, PendingValue, Answer, Stamped, Rejected}
+use Rattle.desk.specs.auxiliary.Completions.{Completion, finished, completed, seals_of, IsWritten}
+use Rattle.desk.specs.auxiliary.Completions.{seal_view}
 use Rattle.desk.specs.auxiliary.Completions.{AreWritten, IsWrittenMore}
 use Rattle.desk.specs.Outcome.{Call, Fine, OutOfMemory, Failed, Outcome, Cause, OfMemory, OfStore, cause_of}
 use Rattle.desk.specs.Outcome.{first_cause}
-use Rattle.desk.specs.auxiliary.Verdicts.{Verdict, Settled, Waits, JudgedStamp, waiting_before, waits_of, HasItsText}
-use Rattle.desk.specs.WaitingStamps.{waiting_view, pending_in, pendings_in, HasText}
+use Rattle.desk.specs.Verdicts.{Verdict, Settled, Waits, JudgedStamp, waiting_before, waits_of, HasItsText}
+use Rattle.desk.specs.WaitingStamps.{BatchValue, waiting_view, waits_by, pending_by, pending_in, pendings_in, texts_of}
+use Rattle.desk.specs.WaitingStamps.{HasText}
+use Rattle.desk.specs.auxiliary.Halves.{AreSigned}
 use Rattle.desk.specs.auxiliary.Wholes.{token_or, ending, added, ended, answer_by, stamped}
-use Rattle.desk.specs.{Effects.in_seal, Effects.for_reply, Effects.no_seal, Fit.IsUncounted}
-use Rattle.desk.specs.{Sent.texts_for, Texts.token_with, Together.AreOfSome, auxiliary.Verdicts.IsJudgedRightly}
-use Rattle.desk.specs.declared.waiting_stamp.WaitingStamp.{WaitingStamp}
-use Rattle.desk.proofs.{stamps.BatchJudgement.all_next, stamps.Endings.waiting_fits}
+use Rattle.desk.specs.{Answers.reply_as, Effects.in_seal, Effects.for_reply, Effects.no_seal, Fit.IsUncounted}
+use Rattle.desk.specs.{Commits.AreOfSome, Sent.texts_for, Texts.token_with, Verdicts.IsJudgedRightly}
+use Rattle.desk.specs.declared.completion.Seal.{Seal}
+use Rattle.desk.specs.declared.unsigned_token.{UnsignedToken.UnsignedToken, Written.Written}
+use Rattle.desk.specs.{declared.reply.Reply.Reply, declared.waiting_stamp.WaitingStamp.WaitingStamp}
+use Rattle.desk.proofs.{stamps.BatchJudgement.all_next}
 
 pub with_both : (vs us : List SealValue) (b : History) → with_sealed (vs ++ us) b ≡ with_sealed us (with_sealed vs b)
 with_both [] us b = refl
 with_both (v ∷ vs) us b = with_both vs us (seal_entry v ∷ b)
-
--- what waits still does once another serial number is sealed
-unsealed_still : (n : ℕ) (p : ℕ) (token : List ℕ) (b : History) → n < p → token_of p b ≡ None
-    → token_of p (Sealed n token ∷ b) ≡ None
-unsealed_still n p token b less none =
-    let other : (n == p) ≡ false = grind arith in
-    ap (λ t. if t then Some token else token_of p b) other ∙ none
-
-waits_still : (n : ℕ) (token : List ℕ) (ps : List PendingValue) (b : History)
-    → AllByRecursion (λ q. n < q.serial) ps → AreWaiting ps b → AreWaiting ps (Sealed n token ∷ b)
-waits_still n token [] b above waits = tt
-waits_still n token (p ∷ ps) b above waits = (
-  record {
-    reservation = waits.0.reservation;
-    reserved = waits.0.reserved;
-    tst = waits.0.tst;
-    open_yet = unsealed_still n p.serial token b above.0 waits.0.open_yet;
-  },
-  waits.1,
-  waits_still n token ps b above.1 waits.2,
-)
-
--- what waits behind one that ended does so still
-waits_after_one : (p : PendingValue) (end : Result (List ℕ) Cause) (ps : List PendingValue) (b : History)
-    → AllByRecursion (λ q. p.serial < q.serial) ps → AreWaiting ps b
-    → AreWaiting ps (with_sealed (seals (added in_seal p.serial end ++ [])) b)
-waits_after_one p (Ok token) ps b above waits = waits_still p.serial token ps b above waits
-waits_after_one p (Err cause) ps b above waits = waits
-
--- all tokens fit in their turn
-fit_one : (p : PendingValue) (end : Result (List ℕ) Cause) (vs : List SealValue) (b : History)
-    → ((token : List ℕ) → Fits (Sealed p.serial token) b)
-    → FitInTurn (map seal_entry vs) (with_sealed (seals (added in_seal p.serial end ++ [])) b)
-    → FitInTurn (map seal_entry (seals (added in_seal p.serial end ++ []) ++ vs)) b
-fit_one p (Ok token) vs b fits rest = (fits token, rest)
-fit_one p (Err cause) vs b fits rest = rest
-
-pub seals_fit : (zs : List Completion) (b : History) → AreWaiting (map (λ z. z.pending) zs) b
-    → FitInTurn (map seal_entry (seals_of Fine zs)) b
-seals_fit [] b waits = tt
-seals_fit (z ∷ zs) b waits =
-    let end = ending z.pending z.signing (finished Fine z) in
-    fit_one z.pending end (seals_of Fine zs) b (λ token. waiting_fits z.pending b waits.0)
-    (seals_fit zs (with_sealed (seals (completed Fine z).adds) b)
-    (waits_after_one z.pending end (map (λ y. y.pending) zs) b waits.1 waits.2))
 
 -- one more of those, of which none of these is
 pub of_more : {X Y : Type 0} (IsOf : X → Y → Type 0) (x : X) (xs : List X) (ys : List Y) → AreOfSome IsOf xs ys
@@ -80,7 +39,7 @@ of_more IsOf x xs [] of = tt
 of_more IsOf x xs (y ∷ ys) of = inr of
 
 -- the first of them, and those behind it
-pub first_of : (p q : PendingValue) (ps qs : List PendingValue) → p ∷ ps ≡ q ∷ qs → (p ≡ q) × (ps ≡ qs)
+pub first_of : {X : Type 0} (p q : X) (ps qs : List X) → p ∷ ps ≡ q ∷ qs → (p ≡ q) × (ps ≡ qs)
 first_of p q ps qs e = (cc, cc)
 
 -- seals are of what waits
@@ -139,16 +98,7 @@ mapped_more f xs i x within is =
     ∙ (map-append f (take i xs) (slice_index_or xs i x ∷ [])
     ∙ ap (λ y. map f (take i xs) ++ (f y ∷ [])) (sym is))
 
--- the texts that are written are those to sign
-pub texts_written : (s : Setting) (ws : List WaitingStamp) → AllByRecursion (HasText s) ws
-    → map (λ w. w.unsigned.text.items) ws ≡ texts_of (pendings_in s ws)
-texts_written s [] all = refl
-texts_written s (w ∷ ws) all =
-    ap (λ (text : List ℕ). text ∷ map (λ v. v.unsigned.text.items) ws) all.0
-    ∙ ap (λ (texts : List (List ℕ)). attribute_text s.in_force.identity w.unsigned.tst.items ∷ texts)
-    (texts_written s ws all.1)
-
--- and those of what is reserved
+-- the texts to sign are those of what is reserved
 pub texts_reserved : (s : Setting) (ws : List WaitingStamp)
     → texts_of (pendings_in s ws) ≡ texts_for s (map waiting_view ws)
 texts_reserved s [] = refl
@@ -166,12 +116,45 @@ pub texts_judged : (s : Setting) (js : List JudgedStamp) → AllByRecursion (IsJ
 texts_judged s [] rightly = tt
 texts_judged s (j ∷ js) rightly = text_before s j.verdict (waits_of js) rightly.0.text (texts_judged s js rightly.1)
 
-pub counts_each : {A : Type 0} (answers : List (Result (Vec ℕ A) SignerFault)) (count : ℕ)
-    → count_after_each answers count ≡ count_after_each (map signed_by answers) count
-counts_each [] count = refl
-counts_each (Ok signature ∷ answers) count = counts_each answers count
-counts_each (Err signer.Failed ∷ answers) count = counts_each answers (wrapping_add count 1)
-counts_each (Err signer.Memory ∷ answers) count = counts_each answers count
+-- what is written of one more
+pub written_sealed : (p : PendingValue) (signing : Result (List ℕ) SignerFault) (w : Written)
+    (seals_before seals_now : List Seal) (before now : List Reply) (seal : Seal) (reply : Reply)
+    → IsWritten p signing (Some w) → seals_now ≡ seals_before ++ (seal ∷ []) → now ≡ before ++ (reply ∷ [])
+    → seal_view seal ≡ record { serial = w.serial; token = w.token.items }
+    → reply_as reply ≡ Stamped w.serial w.bytes.items
+    → IsWrittenMore p signing (map seal_view seals_before) (map reply_as before) (map seal_view seals_now)
+    (map reply_as now)
+written_sealed p (Ok signature) w seals_before seals_now before now seal reply is seals_are are seal_is reply_is = record {
+  wrapping = Fine;
+  grows = tt;
+  seals_are = ap (map seal_view) seals_are ∙ (map-append seal_view seals_before (seal ∷ [])
+      ∙ ap (λ (v : SealValue). map seal_view seals_before ++ (v ∷ []))
+      (seal_is ∙ (ap (λ (n : ℕ). record { serial = n; token = w.token.items }) is.0
+      ∙ ap (λ (token : List ℕ). record { serial = p.serial; token = token }) is.1)));
+  says = ap (map reply_as) are ∙ (map-append reply_as before (reply ∷ [])
+      ∙ ap (λ (a : Answer). map reply_as before ++ (a ∷ []))
+      (reply_is ∙ (ap (λ (n : ℕ). Stamped n w.bytes.items) is.0
+      ∙ ap (λ (bytes : List ℕ). Stamped p.serial bytes) is.2)));
+}
+written_sealed p (Err fault) w seals_before seals_now before now seal reply is seals_are are seal_is reply_is = absurd is
+
+pub written_void : (p : PendingValue) (signing : Result (List ℕ) SignerFault) (vs : List SealValue)
+    (before now : List Reply) (reply : Reply) → now ≡ before ++ (reply ∷ []) → reply_as reply ≡ Rejected System
+    → IsWrittenMore p signing vs (map reply_as before) vs (map reply_as now)
+written_void p (Ok signature) vs before now reply are reply_is = record {
+  wrapping = OutOfMemory;
+  grows = tt;
+  seals_are = sym (append-nil vs);
+  says = ap (map reply_as) are ∙ (map-append reply_as before (reply ∷ [])
+      ∙ ap (λ (a : Answer). map reply_as before ++ (a ∷ [])) reply_is);
+}
+written_void p (Err fault) vs before now reply are reply_is = record {
+  wrapping = Fine;
+  grows = tt;
+  seals_are = sym (append-nil vs);
+  says = ap (map reply_as) are ∙ (map-append reply_as before (reply ∷ [])
+      ∙ ap (λ (a : Answer). map reply_as before ++ (a ∷ [])) reply_is);
+}
 
 sealed_more : (zs : List Completion) (z : Completion)
     → seals_of Fine (zs ++ (z ∷ [])) ≡ seals_of Fine zs ++ seals (completed Fine z).adds
@@ -180,23 +163,128 @@ sealed_more (y ∷ zs) z =
     ap (λ (vs : List SealValue). seals (completed Fine y).adds ++ vs) (sealed_more zs z)
     ∙ sym (append_assoc (seals (completed Fine y).adds) (seals_of Fine zs) (seals (completed Fine z).adds))
 
-pub written_next : {W C : Type 0} (f : W → PendingValue) (h : C → Result (List ℕ) SignerFault) (ws : List W)
-    (cs : List C) (i : ℕ) (w : W) (a : C) (vs now : List SealValue) (answers told : List Answer)
-    → i < length ws → i < length cs → w ≡ slice_index_or ws i w → a ≡ slice_index_or cs i a
-    → AreWritten (map f (take i ws)) (map h (take i cs)) vs answers → IsWrittenMore (f w) (h a) vs answers now told
-    → AreWritten (map f (take (i + 1) ws)) (map h (take (i + 1) cs)) now told
-written_next f h ws cs i w a vs now answers told within within_too is is_too all more =
+written_more : (ps : List PendingValue) (ss : List (Result (List ℕ) SignerFault)) (p : PendingValue)
+    (signing : Result (List ℕ) SignerFault) (vs now : List SealValue) (answers told : List Answer)
+    → AreWritten ps ss vs answers → IsWrittenMore p signing vs answers now told
+    → AreWritten (ps ++ (p ∷ [])) (ss ++ (signing ∷ [])) now told
+written_more ps ss p signing vs now answers told all more =
     let zs = all.completions in
-    let z : Completion = record { pending = f w; signing = h a; wrapping = more.wrapping } in
+    let z : Completion = record { pending = p; signing = signing; wrapping = more.wrapping } in
     record {
       completions = zs ++ (z ∷ []);
-      pendings = map-append (λ y. y.pending) zs (z ∷ []) ∙ (ap (λ ps. ps ++ (f w ∷ [])) all.pendings
-          ∙ sym (mapped_more f ws i w within is));
-      signed = map-append (λ y. y.signing) zs (z ∷ []) ∙ (ap (λ ss. ss ++ (h a ∷ [])) all.signed
-          ∙ sym (mapped_more h cs i a within_too is_too));
+      pendings = map-append (λ y. y.pending) zs (z ∷ []) ∙ ap (λ ps. ps ++ (p ∷ [])) all.pendings;
+      signed = map-append (λ y. y.signing) zs (z ∷ []) ∙ ap (λ ss. ss ++ (signing ∷ [])) all.signed;
       grows = all_next (λ y. IsUncounted y.wrapping) zs z all.grows more.grows;
       seals_are = more.seals_are ∙ (ap (λ us. us ++ seals (completed Fine z).adds) all.seals_are
           ∙ sym (sealed_more zs z));
       says = more.says ∙ (ap (λ xs. xs ++ ((completed Fine z).says ∷ [])) all.says
           ∙ sym (map-append (λ y. (completed Fine y).says) zs (z ∷ [])));
     }
+
+count_more : (answers : List (Result (List ℕ) SignerFault)) (answer : Result (List ℕ) SignerFault) (count : ℕ)
+    → count_after_each (answers ++ (answer ∷ [])) count ≡ count_after answer (count_after_each answers count)
+count_more [] answer count = refl
+count_more (a ∷ answers) answer count = count_more answers answer (count_after a count)
+
+counts_one : {A : Type 0} (answer : Result (Vec ℕ A) SignerFault) (count : ℕ)
+    → count_after answer count ≡ count_after (signed_by answer) count
+counts_one (Ok signature) count = refl
+counts_one (Err signer.Failed) count = refl
+counts_one (Err signer.Memory) count = refl
+
+abbrev pub text_of : UnsignedToken → List ℕ
+text_of u = u.text.items
+
+-- so many signatures were received, and tokens and replies are written over them
+pub record AreReceived {S : Type 0} (count : S → ℕ)
+    (awaits : S → List (List ℕ) → List (Result (List ℕ) SignerFault) → List (List ℕ) → S → Type 0) (s : Setting)
+    (us : List UnsignedToken) (i : ℕ) (vs : List SealValue) (answers : List Answer) (x y : S) : Type 0 where
+  pub signed : List (Result (List ℕ) SignerFault)
+  pub written : AreWritten (waits_by s (take i us)) signed vs answers
+  pub counted : count y ≡ count_after_each signed (count x)
+  pub moves : (z : S) → awaits z [] [] (map text_of us) x
+      → awaits z (map text_of (take i us)) signed (map text_of (drop i us)) y
+
+module _ {S : Type 0} (count : S → ℕ)
+    (awaits : S → List (List ℕ) → List (Result (List ℕ) SignerFault) → List (List ℕ) → S → Type 0) (s : Setting)
+    (us : List UnsignedToken) where
+  pub received_none : (x : S) → AreReceived count awaits s us 0 [] [] x x
+  received_none x = record {
+    signed = [];
+    written = record { completions = []; pendings = refl; signed = refl; grows = tt; seals_are = refl; says = refl };
+    counted = refl;
+    moves = λ z h. h;
+  }
+
+  -- one more
+  pub received_next : {A : Type 0} (i : ℕ) (u : UnsignedToken) (text : List ℕ) (answer : Result (Vec ℕ A) SignerFault)
+      (vs now : List SealValue) (answers told : List Answer) (x y z : S) → i < length us → u ≡ slice_index_or us i u
+      → text ≡ u.text.items → AreReceived count awaits s us i vs answers x y
+      → IsWrittenMore (pending_by s.in_force.identity s.in_force.algorithm u) (signed_by answer) vs answers now told
+      → count z ≡ count_after answer (count y)
+      → ((w : S) (before : List (List ℕ)) (had : List (Result (List ℕ) SignerFault)) (outstanding : List (List ℕ))
+      → awaits w before had (text ∷ outstanding) y
+      → awaits w (before ++ (text ∷ [])) (had ++ (signed_by answer ∷ [])) outstanding z)
+      → AreReceived count awaits s us (i + 1) now told x z
+  received_next i u text answer vs now answers told x y z within is has before more counts receives =
+      let one = signed_by answer in
+      let on : suc i ≡ i + 1 = omega arith in
+      let rest : map text_of (drop i us) ≡ text ∷ map text_of (drop (i + 1) us) =
+      ap (map text_of) (drop-cons us i u within)
+      ∙ (ap (λ j. text_of (slice_index_or us i u) ∷ map text_of (drop j us)) on
+      ∙ (ap (λ v. text_of v ∷ map text_of (drop (i + 1) us)) (sym is)
+      ∙ ap (λ t. t ∷ map text_of (drop (i + 1) us)) (sym has))) in
+      let longer : map text_of (take (i + 1) us) ≡ map text_of (take i us) ++ (text ∷ []) =
+      mapped_more text_of us i u within is ∙ ap (λ t. map text_of (take i us) ++ (t ∷ [])) (sym has) in
+      let pending = pending_by s.in_force.identity s.in_force.algorithm in
+      record {
+        signed = before.signed ++ (one ∷ []);
+        written = subst (λ ps. AreWritten ps (before.signed ++ (one ∷ [])) now told)
+            (sym (mapped_more pending us i u within is))
+            (written_more (waits_by s (take i us)) before.signed (pending u) one vs now answers told before.written more);
+        counted = counts ∙ (counts_one answer (count y) ∙ (ap (count_after one) before.counted
+            ∙ sym (count_more before.signed one (count x))));
+        moves = λ w h. subst (λ ts. awaits w ts (before.signed ++ (one ∷ [])) (map text_of (drop (i + 1) us)) z)
+            (sym longer)
+            (receives w (map text_of (take i us)) before.signed (map text_of (drop (i + 1) us))
+            (subst (λ ts. awaits w (map text_of (take i us)) before.signed ts y) rest (before.moves w h)));
+      }
+
+  -- all of them
+  pub received_all : (signs : S → List ℕ → Result (List ℕ) SignerFault → S → Type 0) (sent : S → List (List ℕ) → S → Type 0)
+      → ((x y : S) (texts : List (List ℕ)) (answers : List (Result (List ℕ) SignerFault)) → awaits x texts answers [] y
+      → SignsEach signs x texts answers y)
+      → ((x y : S) (texts : List (List ℕ)) (answers : List (Result (List ℕ) SignerFault)) (outstanding : List (List ℕ))
+      → awaits x texts answers outstanding y → sent x (texts ++ outstanding) y) → (p : BatchValue)
+      → p.pendings ≡ waits_by s us → map text_of us ≡ texts_of (waits_by s us) → (i : ℕ) → length us ≤ i
+      → (vs : List SealValue) (answers : List Answer) (x y : S) → AreReceived count awaits s us i vs answers x y
+      → AreSigned signs count sent awaits (Some p) vs answers x y
+  received_all signs sent signed went p is texts i whole vs answers x y h =
+      let all = take_all i us whole in
+      let ended : (z : S) → awaits z [] [] (texts_of p.pendings) x
+      → awaits z (texts_of p.pendings) h.signed [] y =
+      λ z handed.
+      subst (λ ts. awaits z ts h.signed [] y) (ap (map text_of) all ∙ (texts ∙ ap texts_of (sym is)))
+      (subst (λ vs. awaits z (map text_of (take i us)) h.signed (map text_of vs) y) (drop_all i us whole)
+      (h.moves z (subst (λ ts. awaits z [] [] ts x) (ap texts_of is ∙ sym texts) handed))) in
+      record {
+        signed = h.signed;
+        written = subst (λ ps. AreWritten ps h.signed vs answers) (ap (waits_by s) all ∙ sym is) h.written;
+        counted = h.counted;
+        moves = λ z handed. signed z y (texts_of p.pendings) h.signed (ended z handed);
+        sends = λ z handed. subst (λ ts. sent z ts y) (append-nil (texts_of p.pendings))
+            (went z y (texts_of p.pendings) h.signed [] (ended z handed));
+      }
+
+-- what is kept of stamps that wait
+pub kept_pendings : (s : Setting) (ws : List WaitingStamp) → pendings_in s ws ≡ waits_by s (map (λ w. w.unsigned) ws)
+kept_pendings s [] = refl
+kept_pendings s (w ∷ ws) = ap (λ ps. pending_in s w ∷ ps) (kept_pendings s ws)
+
+pub kept_texts : (s : Setting) (ws : List WaitingStamp) → AllByRecursion (HasText s) ws
+    → map text_of (map (λ w. w.unsigned) ws) ≡ texts_of (waits_by s (map (λ w. w.unsigned) ws))
+kept_texts s [] all = refl
+kept_texts s (w ∷ ws) all =
+    ap (λ (text : List ℕ). text ∷ map text_of (map (λ v. v.unsigned) ws)) all.0
+    ∙ ap (λ (texts : List (List ℕ)). attribute_text s.in_force.identity w.unsigned.tst.items ∷ texts)
+    (kept_texts s ws all.1)

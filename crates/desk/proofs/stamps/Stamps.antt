@@ -4,10 +4,10 @@ use Rattle.std.proofs.Common.{◌∙◌, ap, subst, inl, inr, arith, append_asso
 use Rattle.std.specs.Prelude.{IfErr, OnOk}
 use Rattle.book.specs.History.{Entry, Reserved, History, ReservationValue, greatest_serial}
 use Rattle.book.specs.{declared.standing.Standing.Ghosts, Sound.Along, Sound.Fits, Stands.Stands}
-use Rattle.tsp.specs.declared.rule.Rule.{Rule}
 use Rattle.cms.specs.declared.signer.SignerFault.{SignerFault}
 use Rattle.cms.specs.declared.signer.SignerFault.TheVariants as signer
-use Rattle.desk.specs.auxiliary.Beginnings.{IsSettled, IsAwaited, Reserves, Begins}
+use Rattle.desk.specs.Verdicts.{IsSettled, IsAwaited}
+use Rattle.desk.specs.auxiliary.Beginnings.{Reserves, Begins}
 use Rattle.desk.specs.Outcome.{Call, Fine, OutOfMemory, Failed, Outcome, Cause, OfMemory, OfStore, OfSigner, counted}
 use Rattle.desk.specs.Outcome.{Refusal, ByRule, ByCause, all_fine}
 use Rattle.desk.specs.Findings.{StampPlan, Finding, Fails, Allowed, Finds}

@@ -1,41 +1,17 @@
 -- A stamp up to its reservation, whatever it is made for, by itself or together with others.
-use Rattle.std.specs.Prelude.{◌≡◌, ◌⊎◌, ℕ, ◌+◌, ◌<◌, ◌≤◌, List, [], ◌∷◌, Option, Some, None, Result, Ok, Err}
+use Rattle.std.specs.Prelude.{◌≡◌, ◌⊎◌, ℕ, ◌+◌, ◌<◌, ◌≤◌, List, [], ◌∷◌, Result, Ok, Err}
 use Rattle.gentime.specs.GenTime.{last_moment}
-use Rattle.book.specs.History.{Reserved, History, ReservationValue, greatest_serial}
+use Rattle.book.specs.History.{Reserved, History, ReservationValue}
 use Rattle.book.specs.{Entries.Appends, Fault.IsOfStorage, Sound.greatest_number, Stands.Stands}
 use Rattle.book.specs.{declared.fault.StoreFault.StoreFault, declared.standing.Standing.Ghosts}
-use Rattle.desk.specs.Effects.{name_of, next_reservation, no_number}
-use Rattle.desk.specs.Findings.{StampPlan, Finding, Fails, Unanswered, Allowed, Finds}
-use Rattle.desk.specs.Outcome.{Outcome, Cause, Refusal, ByRule, ByCause, all_fine, faults_after}
+use Rattle.desk.specs.Findings.{StampPlan}
+use Rattle.desk.specs.Outcome.{Outcome, Refusal, faults_after}
 use Rattle.desk.specs.WaitingStamps.{waiting_view, pending_in, HasText}
 use Rattle.desk.specs.{Batches.Question, Calls.why_of, Calls.refused, Calls.IsOfLooks, Command.Setting}
 use Rattle.desk.specs.{Command.PendingValue, Command.Begin, Fit.IsFit, Texts.reservation_of, Texts.pending_of}
 use Rattle.desk.specs.{declared.refusal.StampRefusal.StampRefusal, declared.waiting_stamp.WaitingStamp.WaitingStamp}
 use Rattle.desk.specs.declared.refusal.StampRefusal.TheVariants as refusal
-
--- the call that had no answer, by what was found and why there is no serial number
-abbrev pub unanswered_by : Finding → Option Cause → Option Cause
-unanswered_by (Fails rule) why = None
-unanswered_by (Unanswered cause) why = Some cause
-unanswered_by (Allowed plan) why = why
-
-pub record IsUnreserved (s : Setting) (a : Question) (o : Outcome) (b : History) (cause : Cause) : Type 0 where
-  pub found : Finding
-  pub finds : Finds s.file a.account a.reading a.octets o b found
-  pub why : unanswered_by found (no_number o b) ≡ Some cause
-
--- nothing is reserved, where this was met
-abbrev pub IsSettled : Setting → Question → Refusal → Outcome → History → Type 0
-IsSettled s a (ByRule rule) o b = Finds s.file a.account a.reading a.octets o b (Fails rule)
-IsSettled s a (ByCause cause) o b = IsUnreserved s a o b cause
-
--- No rule refuses it: what is reserved under the next serial number, and what waits for its signature then.
-pub record IsAwaited (s : Setting) (a : Question) (b : History) (r : ReservationValue) (p : PendingValue) : Type 0 where
-  pub plan : StampPlan
-  pub found : Finds s.file a.account a.reading a.octets (all_fine (Ok [])) b (Allowed plan)
-  pub left : greatest_serial b < greatest_number
-  pub reserves : r ≡ next_reservation s (name_of a.account) plan a.octets b
-  pub pending : p ≡ pending_of s plan r
+use Rattle.desk.specs.Verdicts.{IsSettled, IsAwaited}
 
 -- What is written for a plan, behind this serial number, or why it isn't.
 pub record WaitsFor (s : Setting) (account : List ℕ) (plan : StampPlan) (octets : List ℕ) (last : ℕ) (w : WaitingStamp)

@@ -1,18 +1,13 @@
 -- Stamps that are answered together, from their reservations on: what is signed and written of each, and the one commit
 -- of all their tokens.
-use Rattle.std.specs.Prelude.{◌≡◌, ℕ, ◌<◌, List, [], ◌∷◌, ◌++◌, map, Option, Some, None, Result, Ok, Err}
+use Rattle.std.specs.Prelude.{◌≡◌, ℕ, List, [], ◌∷◌, ◌++◌, map, Option, Some, None, Result, Ok, Err}
 use Rattle.std.specs.List.{AllByRecursion}
 use Rattle.tsp.specs.Granted.{granted_octets}
-use Rattle.cms.specs.{SignedData.attribute_text, declared.signer.SignerFault.SignerFault}
-use Rattle.book.specs.History.{History}
+use Rattle.cms.specs.declared.signer.SignerFault.{SignerFault}
 use Rattle.desk.specs.Outcome.{Call, Fine, Outcome, all_fine}
 use Rattle.desk.specs.{Batches.SealValue, Batches.seals, Batches.all_sealed, Command.PendingValue, Command.Answer}
-use Rattle.desk.specs.{Effects.Effect, Effects.for_reply, Fit.IsUncounted, MachineStep.IsWaiting, Texts.token_with}
+use Rattle.desk.specs.{Effects.Effect, Effects.for_reply, Fit.IsUncounted, Texts.token_with}
 use Rattle.desk.specs.{auxiliary.Wholes.stamped, declared.completion.Seal.Seal, declared.unsigned_token.Written.Written}
-
--- the texts that are signed
-abbrev pub texts_of : List PendingValue → List (List ℕ)
-texts_of ps = map (λ p. attribute_text p.identity p.tst) ps
 
 -- one that waited: what it was signed by, and whether there was memory for its token and its reply
 pub record Completion : Type 0 where
@@ -31,11 +26,6 @@ completed sealing z = stamped for_reply z.pending z.signing [] (finished sealing
 -- the seals of all of them, in their order
 abbrev pub seals_of : Call → List Completion → List SealValue
 seals_of sealing zs = all_sealed (map (completed sealing) zs)
-
--- Each waits for its signature, and their serial numbers rise.
-abbrev pub AreWaiting : List PendingValue → History → Type 0
-AreWaiting [] b = Unit {0}
-AreWaiting (p ∷ ps) b = IsWaiting p b × AllByRecursion (λ q. p.serial < q.serial) ps × AreWaiting ps b
 
 -- token and reply over a signature are written, or nothing is
 abbrev pub IsWritten : PendingValue → Result (List ℕ) SignerFault → Option Written → Type 0

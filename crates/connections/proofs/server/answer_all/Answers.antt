@@ -6,7 +6,8 @@ use Rattle.connections.proofs.server.answer_all.Goals as goal
 pub answering-init : goal.answering-init
 answering-init g c = record {
   within = search rules;
-  heard = heard_as _ _ _ _ _ _ _ _ _ c.args.count 0 _ _ _ (omega arith) (heard_none _ _ _ _ _ _ _ _ _ c.args.count _);
+  heard = heard_as _ _ _ _ _ _ _ _ _ _ c.args.count 0 _ _ _ (omega arith)
+      (heard_none _ _ _ _ _ _ _ _ _ _ c.args.count _);
 }
 
 pub returns-in_err-left-clause-stopped : goal.returns-in_err-left-clause-stopped
@@ -26,12 +27,13 @@ answering-preserved g c =
     let still : left ≡ c.args.count - (c.args.count - left) = omega (arith, c.answering.invariant.within) in
     record {
       within = omega (arith, c.answering.invariant.within);
-      heard = heard_as _ _ _ _ _ _ _ _ _ c.args.count _ _ _ _
+      heard = heard_as _ _ _ _ _ _ _ _ _ _ c.args.count _ _ _ _
           (omega (arith, c.answering.invariant.within, c.in_ok-left.ensures.few))
-          (heard_more _ _ _ _ _ _ _ _ _ c.args.count _ c.in_ok-left.field-0 _ _ _ c.answering.invariant.heard
+          (heard_more _ _ _ _ _ _ _ _ _ _ c.args.count _ c.in_ok-left.field-0 _ _ _ c.answering.invariant.heard
           (rw still at c.in_ok-left.ensures.heard));
     }
 
 pub returns-clause-heard : goal.returns-clause-heard
 returns-clause-heard g c =
-    heard_as _ _ _ _ _ _ _ _ _ c.args.count _ _ _ _ (omega (arith, c.answering-test.false)) c.answering.invariant.heard
+    heard_as _ _ _ _ _ _ _ _ _ _ c.args.count _ _ _ _ (omega (arith, c.answering-test.false))
+    c.answering.invariant.heard

@@ -4,12 +4,12 @@ use Rattle.connections.proofs.server.serve_each.Goals as goal
 
 pub returns-clause-setting : goal.returns-clause-setting
 returns-clause-setting g c =
-    told_setting _ _ _ _ _ _ _ _ _ c.args.count _ _ c.answer_all.result
+    told_setting _ _ _ _ _ _ _ _ _ _ c.args.count _ _ c.answer_all.result
     (c.answer_all.ensures.heard, c.answer_all.ensures.stopped)
 
 pub returns-clause-honest : goal.returns-clause-honest
 returns-clause-honest g c =
-    told_honest _ _ _ _ _ _ _ _ _ c.args.count _ _ c.answer_all.result
+    told_honest _ _ _ _ _ _ _ _ _ _ c.args.count _ _ c.answer_all.result
     (c.answer_all.ensures.heard, c.answer_all.ensures.stopped)
 
 pub returns-clause-served : goal.returns-clause-served
@@ -23,5 +23,5 @@ returns-clause-served g c =
       isolated = c.accounts_are_isolated.ensures;
       undisturbed = c.accounts_disturb_little.ensures;
     } in
-    told_run _ _ _ _ _ _ _ _ _ laws c.args.count _ _ c.answer_all.result c.desks_are_proper.ensures
+    told_run _ _ _ _ _ _ _ _ _ _ laws c.args.count _ _ c.answer_all.result c.desks_are_proper.ensures
     (c.answer_all.ensures.heard, c.answer_all.ensures.stopped)

@@ -1,6 +1,7 @@
 use Rattle.std.proofs.Common.{◌+◌, ◌∙◌, [], ◌∷◌, ◌++◌, Some, take, sym, ap, subst, refl, arith, rules}
 use Rattle.std.proofs.lemmas.List.{take_all}
-use Rattle.desk.specs.auxiliary.Verdicts.{Settled, JudgesEach}
+use Rattle.desk.specs.Verdicts.{Settled}
+use Rattle.desk.specs.auxiliary.Verdicts.{JudgesEach}
 use Rattle.desk.specs.{Calls.settings_view, Together.question_view, Together.questions_view}
 use Rattle.desk.proofs.stamps.BatchJudgement.{asked_more, judges_none, judges_next}
 use Rattle.desk.proofs.batch_start.settle_each.Goals as goal

@@ -1,6 +1,6 @@
 use Rattle.std.proofs.Common.{◌≡◌, ◌≤◌, ◌++◌, length, map, drop, vec_len}
 use Rattle.std.specs.{Prelude.vec_capacity, Vec.Iter.into_iter_items, Vec.Iter.into_iter_len}
-use Rattle.desk.specs.{Answers.reply_as, auxiliary.Verdicts.merged}
+use Rattle.desk.specs.{Answers.reply_as, Verdicts.merged}
 use Rattle.desk.proofs.completion.merge.Given as goal
 
 abbrev pub invariant-loop-verdict : goal.invariant-loop-verdict
